@@ -1,0 +1,6 @@
+pub mod Fields
+pub mod Signed
+pub mod Modulo
+pub mod Tables
+pub mod Cases
+pub mod Tests

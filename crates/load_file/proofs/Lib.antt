@@ -1,0 +1,4 @@
+pub mod Offsets
+pub mod Words
+pub mod Soundness
+pub mod Default
