@@ -1,0 +1,10 @@
+pub mod State
+pub mod Names
+pub mod Queue
+pub mod Soundness
+pub mod Load
+pub mod Pointers
+pub mod Execution
+pub mod Step
+pub mod Run
+pub mod Battles

@@ -1,0 +1,145 @@
+-- One step (01, 'One step').
+-- Assumes nothing.
+use Prim.Native.Nat.{ℕ, _+_}
+use mathlib.Core.Bool.{Bool, cond, not, _&&_, _||_}
+use mathlib.Core.List.{List, [], _∷_}
+use mathlib.Core.Option.{Option, none, some}
+use lib.Dec.{eqb}
+use lib.ListN.{getD, set}
+use Rattle.answer.specs.Numbers.{Told, gives}
+use Rattle.laws.specs.Lists.{among}
+use Rattle.load_file.specs.declared.Cell.{Cell}
+use Rattle.load_file.specs.Cells.{packed, unpacked, soundWord}
+use Rattle.load_file.specs.Opcode.{LDP, STP}
+use Rattle.machine.specs.declared.Entry.{Entry}
+use Rattle.machine.specs.State.{Machine, Outcome, Check, check, first, settle}
+use Rattle.machine.specs.Queue.{entry, unpackedEntry, front, full, pop, push, started}
+use Rattle.machine.specs.Soundness.{soundHeader, soundEntry}
+use Rattle.machine.specs.Pointers.{Operand, operand}
+use Rattle.machine.specs.Execution.{Ending, dat, divisor, Next, ends, goes, splits, Effect, Scene, effectOf}
+
+-- the entry popped, its place PC, and the instruction there
+abbrev pub popped : Machine → Entry
+popped m = unpackedEntry (front m)
+
+abbrev pub pc : Machine → ℕ
+pc m = popped m .place .0
+
+abbrev pub instruction : Machine → Cell
+instruction m = unpacked (getD (m .core) (pc m) 0)
+
+-- the A operand comes first; the B operand follows, its number read again from the core
+abbrev pub operandA : Machine → Operand
+operandA m = operand (m .header .size) (m .core) (pc m) (instruction m .«a_mode») (instruction m .a .0)
+
+abbrev pub operandB : Machine → Operand
+operandB m =
+    operand (m .header .size) (operandA m .core) (pc m) (instruction m .«b_mode») (unpacked (getD (operandA m .core) (pc m) 0) .b .0)
+
+abbrev pub scene : Machine → Scene
+scene m =
+    let b = operandB m in
+    record {
+      size = m .header .size;
+      modifier = instruction m .modifier;
+      pc = pc m;
+      jump = operandA m .pointer;
+      ra = operandA m .register;
+      rb = b .register;
+      live = unpacked (getD (b .core) (b .pointer) 0);
+    }
+
+unfoldable pub effect : Machine → Effect
+effect m = effectOf (instruction m .opcode) (scene m)
+
+-- the target cell, stored; one write if any target field is stored
+abbrev pub storeTo : Option Cell → List ℕ → ℕ → List ℕ
+storeTo none core place = core
+storeTo (some c) core place = set core place (packed c)
+
+abbrev pub storeWrites : Option Cell → ℕ
+storeWrites none = 0
+storeWrites (some c) = 1
+
+unfoldable pub coreAfter : Machine → List ℕ
+coreAfter m = storeTo (effect m .cell) (operandB m .core) (operandB m .pointer)
+
+unfoldable pub stepWrites : Machine → ℕ
+stepWrites m = operandA m .writes + operandB m .writes + storeWrites (effect m .cell)
+
+-- count one step
+unfoldable pub counted : List ℕ → Machine → Machine
+counted core m =
+    let h = m .header in
+    record {
+      core = core;
+      queue = m .queue;
+      header = record {
+        size = h .size;
+        head = h .head;
+        length = h .length;
+        held = h .held;
+        names = h .names;
+        lengths = h .lengths;
+        counts = h .counts;
+        threads = h .threads;
+        steps = h .steps + 1;
+      };
+    }
+
+pub record Queued : Type 0 where
+  pub machine : Machine
+  pub pushes : ℕ
+
+-- an ended process pushes nothing; others push the next place
+-- SPL pushes PC+1 with its thread number, then the A pointer with a new one; if the queue is then full the child is dropped and no number used
+abbrev pub queued : Next → Entry → Machine → Queued
+queued (ends x) e m = record { machine = m; pushes = 0 }
+queued (goes p) e m = record { machine = push (entry p (e .thread) (e .name)) m; pushes = 1 }
+queued (splits p c) e m =
+    let n = push (entry p (e .thread) (e .name)) m in
+    cond (full n) (record { machine = n; pushes = 1 }) (record { machine = started c (e .name) n; pushes = 2 })
+
+-- 11, with place: DAT ended the name's last entry; 12: a zero divisor did
+abbrev pub endTold : Ending → ℕ → Told
+endTold dat place = gives 11 place
+endTold divisor place = gives 12 0
+
+-- the answer is 0 if the name has entries left
+abbrev pub nextTold : Next → ℕ → ℕ → Told
+nextTold (ends x) left place = cond (eqb left 0) (endTold x place) (gives 0 0)
+nextTold (goes p) left place = gives 0 0
+nextTold (splits p c) left place = gives 0 0
+
+-- pop, count one step, execute, push
+unfoldable pub executed : Machine → Outcome
+executed m =
+    let e = popped m in
+    let n = counted (coreAfter m) (pop m) in
+    let q = queued (effect m .next) e n in
+    let left = getD (n .header .counts) (e .name) 0 in
+    let answer = nextTold (effect m .next) left (pc m) in
+    record {
+      machine = q .machine;
+      number = answer .number;
+      value = answer .value;
+      writes = stepWrites m;
+      steps = 1;
+      pushes = q .pushes;
+    }
+
+-- 9 (header), 7, 9 (front entry), 8, 9 (executed cell), 10, 9 (other cells read)
+abbrev pub stepChecks : Machine → List Check
+stepChecks m =
+    let h = m .header in
+    check (not (soundHeader m)) 9
+    ∷ check (eqb (h .length) 0) 7
+    ∷ check (not (soundEntry h (front m))) 9
+    ∷ check (eqb (h .steps) 4294967295 || eqb (getD (h .threads) (popped m .name) 0) 4294967295) 8
+    ∷ check (not (soundWord (h .size) (getD (m .core) (pc m) 0))) 9
+    ∷ check (among (LDP ∷ STP ∷ []) (instruction m .opcode)) 10
+    ∷ check (not (operandA m .sound && operandB m .sound)) 9
+    ∷ []
+
+unfoldable pub step : Machine → Outcome
+step m = settle (first (stepChecks m)) m (executed m)

@@ -1,0 +1,1 @@
+// A warrior as it is handed in: its body, as match-file bytes, and its name.
