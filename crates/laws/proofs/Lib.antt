@@ -4,3 +4,4 @@ pub mod Modulo
 pub mod Tables
 pub mod Cases
 pub mod Tests
+pub mod Lists

@@ -2,7 +2,7 @@
 -- Assumes nothing.
 use Prim.Native.Nat.{ℕ, zero, suc, _+_, _-_}
 use mathlib.Core.Bool.{cond, not}
-use mathlib.Core.List.{List, [], _∷_}
+use mathlib.Core.List.{[], _∷_}
 use lib.Dec.{eqb}
 use lib.IntN.{ℤ}
 use lib.ListN.{getD}
@@ -10,7 +10,7 @@ use Rattle.load_file.specs.Offset.{euclid}
 use Rattle.load_file.specs.Cells.{soundWord}
 use Rattle.machine.specs.declared.Ceiling.{Ceiling}
 use Rattle.machine.specs.declared.Ceiling.the-variants.{Unsaid, Steps}
-use Rattle.machine.specs.State.{Machine, Outcome, Check, check, first, settle}
+use Rattle.machine.specs.State.{Machine, Outcome, check, first, settle}
 use Rattle.machine.specs.Soundness.{soundHeader}
 use Rattle.machine.specs.Step.{step}
 

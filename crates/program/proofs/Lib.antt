@@ -1,0 +1,4 @@
+pub mod Numbers
+pub mod Front
+pub mod Bodies
+pub mod Names

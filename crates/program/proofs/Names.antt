@@ -1,0 +1,37 @@
+-- A name, byte by byte.
+-- Assumes nothing.
+use mathlib.Core.Path.{_≡_, sym, ap, _∙_}
+use mathlib.Core.Bool.{Bool, true, false, _&&_}
+use mathlib.Core.List.{List}
+use Prim.Native.Nat.{ℕ, _+_, _<_, _≤_}
+use native.Mathlib.Omega.{arith}
+use lib.ListN.{length, getD, drop, drop-of-length-le}
+use borrow.Author.Tests.{le-leb, lt-leb}
+use Rattle.laws.specs.Lists.{every}
+use Rattle.laws.proofs.Lists.{drop-first}
+use Rattle.program.specs.Metadata.{validByte, validName}
+
+pub long : (name : List ℕ) → 32 < length name → false ≡ validName name
+long name h = simp (lt-leb _ _ h)
+
+-- a name of at most 32 bytes whose first i are valid
+pub record From (name : List ℕ) (i : ℕ) : Type 0 where
+  pub short : length name ≤ 32
+  pub within : i ≤ length name
+  pub rest : every validByte name ≡ every validByte (drop i name)
+
+module _ (name : List ℕ) (i : ℕ) (f : From name i) where
+  pub is : validName name ≡ every validByte (drop i name)
+  is = simp (le-leb (length name) 32 (f .short)) (f .rest)
+
+  next : i < length name → every validByte name ≡ (validByte (getD name i 0) && every validByte (drop (i + 1) name))
+  next h = f .rest ∙ rw (drop-first name i 0)
+
+  pub found : i < length name → validByte (getD name i 0) ≡ false → false ≡ validName name
+  found h e = sym (is ∙ sym (f .rest) ∙ next h ∙ ap (λ (b : Bool). b && every validByte (drop (i + 1) name)) e)
+
+  pub further : i < length name → validByte (getD name i 0) ≡ true → From name (i + 1)
+  further h e = record { short = f .short; within = omega arith; rest = next h ∙ ap (λ (b : Bool). b && every validByte (drop (i + 1) name)) e }
+
+  pub over : length name ≤ i → true ≡ validName name
+  over h = sym (is ∙ ap (every validByte) (drop-of-length-le name h))
