@@ -18,6 +18,10 @@ pub and-true : (a : Bool) → (a && true) ≡ a
 and-true true = refl
 and-true false = refl
 
+pub and-false : (a : Bool) → (a && false) ≡ false
+and-false true = refl
+and-false false = refl
+
 -- what `if !f(..)` tells of what f ensures
 pub refuted : {r s : Bool} → r ≡ s → not r ≡ true → s ≡ false
 refuted {r} e t = sym e ∙ not-true r t

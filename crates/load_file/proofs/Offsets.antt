@@ -27,9 +27,12 @@ euclid-lt (negsuc n) (suc m) h = omega arith
 pub ahead-lt : (size a r : ℕ) → 0 < size → ahead size a r < size
 ahead-lt size a r h = mod-lt (a + r) h
 
--- what `add` promises in a core of some cells
+-- what `sum` promises for a size of some cells
 pub some-cells : (size s a r : ℕ) → (size ≡ 0 → ⊥) → s ≡ ahead size a r → s ≡ cond (eqb size 0) 0 (ahead size a r)
 some-cells size s a r h e = simp (ne-eqb size 0 h) e
+
+pub sum-is : (size : ℕ) {s n : ℕ} → (size ≡ 0 → ⊥) → s ≡ cond (eqb size 0) 0 n → s ≡ n
+sum-is size {s} {n} h e = e ∙ simp (ne-eqb size 0 h)
 
 -- `-(y + 1) + b`, where b is at most y
 less : (y b : ℕ) → b ≤ y → negsuc y +ℤ pos b ≡ negsuc (y - b)

@@ -28,24 +28,31 @@ pub fn reduce(n: i32, size: u32) -> Relative
     }
 }
 
-// The place that lies a field number past a place; 0 in a core of no cells.
+// The one reducing addition, for places and numbers below the size by compare and subtract; 0 for a size of 0.
+pub fn sum(a: u32, b: u32, size: u32) -> u32
+    ensures { λ s. ⌜ s ≡ cond (eqb size 0) 0 (ahead size a b) ⌝ }
+{
+    let m = size as u64;
+    let whole = a as u64 + b as u64;
+    if whole < m {
+        let s = whole as u32;
+        return s;
+    }
+    let rest = whole - m;
+    if rest < m {
+        let s = rest as u32;
+        return s;
+    }
+    if m == 0 {
+        return 0;
+    }
+    let s = (rest % m) as u32;
+    s
+}
+
+// The place that lies a field number past a place.
 pub fn add(a: Absolute, r: Relative, size: u32) -> Absolute
     ensures { λ s. ⌜ s .0 ≡ cond (eqb size 0) 0 (ahead size (a .0) (r .0)) ⌝ }
 {
-    let m = size as u64;
-    let sum = a.0 as u64 + r.0 as u64;
-    if sum < m {
-        let place = sum as u32;
-        return Absolute(place);
-    }
-    let rest = sum - m;
-    if rest < m {
-        let place = rest as u32;
-        return Absolute(place);
-    }
-    if m == 0 {
-        return Absolute(0);
-    }
-    let place = (rest % m) as u32;
-    Absolute(place)
+    Absolute(sum(a.0, r.0, size))
 }
