@@ -5,3 +5,4 @@ pub mod Tables
 pub mod Cases
 pub mod Tests
 pub mod Lists
+pub mod Loops

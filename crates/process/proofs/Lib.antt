@@ -1,1 +1,3 @@
 pub mod Rings
+pub mod Naming
+pub mod Headers

@@ -8,6 +8,7 @@ use lib.ListN.{length, getD}
 use Rattle.machine.specs.declared.Entry.{Entry}
 use Rattle.machine.specs.declared.Header.{Header}
 use Rattle.machine.specs.State.{Machine}
+use Rattle.machine.specs.Names.{register}
 use Rattle.machine.specs.Queue.{full, pop, push, started}
 
 -- a header of these parts; steps taken play no part in the queue or the names
@@ -49,3 +50,15 @@ pushIf e m = cond (hasRoom m (e .name)) (push e m) m
 -- a process started, where there is room and a thread number left
 unfoldable pub startIf : ℕ → ℕ → Machine → Machine
 startIf place i m = cond (hasRoom m i && not (eqb (getD (m .header .threads) i 0) 4294967295)) (started place i m) m
+
+-- a machine of these memories and header
+abbrev pub machineOf : List ℕ → List ℕ → Header → Machine
+machineOf core queue header = record { core = core; queue = queue; header = header }
+
+-- a name registered, where there is a slot for it
+unfoldable pub registerIf : Header → List ℕ → Header
+registerIf h name = cond (ltb (h .held) 16 && leb (length name) 32) (register h name) h
+
+-- a name's length byte
+abbrev pub validLength : ℕ → Bool
+validLength k = leb 1 k && leb k 32

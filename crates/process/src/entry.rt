@@ -1,7 +1,6 @@
 // The packed queue entry.
 ghost use mathlib.Core.Path.{_≡_};
 ghost use Rattle.machine.specs.Queue.{packedEntry, unpackedEntry};
-
 use load_file::offset::Absolute;
 use machine::Entry;
 

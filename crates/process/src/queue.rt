@@ -3,11 +3,10 @@ ghost use mathlib.Core.Path.{_≡_};
 ghost use mathlib.Core.List.{[]};
 ghost use Prim.Native.Nat.{_+_, _-_};
 ghost use Rattle.process.specs.Parts.{queueOf, popIf, pushIf, startIf};
-
 use crate::entry::pack;
 use crate::entry::unpack;
-use load_file::offset::sum;
 use load_file::offset::Absolute;
+use load_file::offset::sum;
 use machine::Entry;
 
 // Where the ring begins, and how many entries it has.
@@ -109,7 +108,16 @@ pub fn start(
     if thread == 4294967295 {
         return ring;
     }
-    let after = push(queue, ring, counts, Entry { place, thread, name });
+    let after = push(
+        queue,
+        ring,
+        counts,
+        Entry {
+            place,
+            thread,
+            name,
+        },
+    );
     if after.length == ring.length {
         return after;
     }
