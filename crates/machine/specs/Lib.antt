@@ -5,6 +5,7 @@ pub mod Soundness
 pub mod Load
 pub mod Pointers
 pub mod Execution
+pub mod Instruction
 pub mod Step
 pub mod Run
 pub mod Battles

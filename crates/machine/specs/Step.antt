@@ -3,20 +3,20 @@
 use Prim.Native.Nat.{ℕ, _+_}
 use mathlib.Core.Bool.{cond, not, _&&_, _||_}
 use mathlib.Core.List.{List, [], _∷_}
-use mathlib.Core.Option.{Option, none, some}
 use lib.Dec.{eqb}
-use lib.ListN.{getD, set}
+use lib.ListN.{getD}
 use Rattle.answer.specs.Numbers.{Told, gives}
 use Rattle.laws.specs.Lists.{among}
 use Rattle.load_file.specs.declared.Cell.{Cell}
-use Rattle.load_file.specs.Cells.{packed, unpacked, soundWord}
+use Rattle.load_file.specs.Cells.{soundWord}
 use Rattle.load_file.specs.Opcode.{LDP, STP}
 use Rattle.machine.specs.declared.Entry.{Entry}
 use Rattle.machine.specs.State.{Machine, Outcome, Check, check, first, settle}
 use Rattle.machine.specs.Queue.{entry, unpackedEntry, front, full, pop, push, started}
 use Rattle.machine.specs.Soundness.{soundHeader, soundEntry}
-use Rattle.machine.specs.Pointers.{Operand, operand}
-use Rattle.machine.specs.Execution.{Ending, dat, divisor, Next, ends, goes, splits, Effect, Scene, effectOf}
+use Rattle.machine.specs.Pointers.{Operand}
+use Rattle.machine.specs.Execution.{Ending, dat, divisor, Next, ends, goes, splits, Effect}
+use Rattle.machine.specs.Instruction.{fetched, aOperand, bOperand, effectAt, coreAt, writesAt}
 
 -- the entry popped, its place PC, and the instruction there
 abbrev pub popped : Machine → Entry
@@ -26,46 +26,23 @@ abbrev pub pc : Machine → ℕ
 pc m = popped m .place .0
 
 abbrev pub instruction : Machine → Cell
-instruction m = unpacked (getD (m .core) (pc m) 0)
+instruction m = fetched (m .core) (pc m)
 
--- the A operand comes first; the B operand follows, its number read again from the core
+-- evaluate both operands, and execute
 abbrev pub operandA : Machine → Operand
-operandA m = operand (m .header .size) (m .core) (pc m) (instruction m .«a_mode») (instruction m .a .0)
+operandA m = aOperand (m .header .size) (m .core) (pc m)
 
 abbrev pub operandB : Machine → Operand
-operandB m =
-    operand (m .header .size) (operandA m .core) (pc m) (instruction m .«b_mode») (unpacked (getD (operandA m .core) (pc m) 0) .b .0)
-
-abbrev pub scene : Machine → Scene
-scene m =
-    let b = operandB m in
-    record {
-      size = m .header .size;
-      modifier = instruction m .modifier;
-      pc = pc m;
-      jump = operandA m .pointer;
-      ra = operandA m .register;
-      rb = b .register;
-      live = unpacked (getD (b .core) (b .pointer) 0);
-    }
+operandB m = bOperand (m .header .size) (m .core) (pc m)
 
 unfoldable pub effect : Machine → Effect
-effect m = effectOf (instruction m .opcode) (scene m)
-
--- the target cell, stored; one write if any target field is stored
-abbrev pub storeTo : Option Cell → List ℕ → ℕ → List ℕ
-storeTo none core place = core
-storeTo (some c) core place = set core place (packed c)
-
-abbrev pub storeWrites : Option Cell → ℕ
-storeWrites none = 0
-storeWrites (some c) = 1
+effect m = effectAt (m .header .size) (m .core) (pc m)
 
 unfoldable pub coreAfter : Machine → List ℕ
-coreAfter m = storeTo (effect m .cell) (operandB m .core) (operandB m .pointer)
+coreAfter m = coreAt (m .header .size) (m .core) (pc m)
 
 unfoldable pub stepWrites : Machine → ℕ
-stepWrites m = operandA m .writes + operandB m .writes + storeWrites (effect m .cell)
+stepWrites m = writesAt (m .header .size) (m .core) (pc m)
 
 -- count one step
 unfoldable pub counted : List ℕ → Machine → Machine
