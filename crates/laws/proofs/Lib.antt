@@ -4,3 +4,7 @@ pub mod Modulo
 pub mod Tables
 pub mod Cases
 pub mod Tests
+pub mod Every
+pub mod Tally
+pub mod Lowest
+pub mod Same
