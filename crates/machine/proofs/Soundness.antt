@@ -1,0 +1,253 @@
+-- The sound header and the sound front entry, test by test, and what keeps the header sound: pop, push, counting a step,
+-- a next thread number, registering a name, another core of the same length.
+-- Assumes nothing.
+use Prim.Native.Nat.{ℕ, _+_, _-_, _/_, _%_, _^_, _≤_, _<_}
+use mathlib.Core.Path.{_≡_, refl, sym, ap, subst, _∙_}
+use mathlib.Core.Bool.{Bool, true, false, cond, _&&_}
+use mathlib.Core.List.{List, [], _∷_, _++_}
+use native.Mathlib.Nat.{mod-lt}
+use native.Mathlib.Omega.{arith}
+use lib.Dec.{eqb, leb, ltb}
+use lib.ListN.{length, getD, take, set, length-set}
+use lib.Seq.{take-set-lt, length-take-le, getD-take}
+use borrow.Author.Tests.{leb-true, ltb-true, eqb-true, eqb-false, le-leb, lt-ltb, eq-eqb}
+use Rattle.laws.specs.Lists.{every, total, distinct}
+use Rattle.laws.proofs.Tests.{both, holds}
+use Rattle.laws.proofs.Every.{every-passes, every-at, every-snoc}
+use Rattle.laws.proofs.Tally.{total-set, total-snoc}
+use Rattle.laws.proofs.Same.{distinct-snoc}
+use Rattle.program.specs.Metadata.{validByte}
+use Rattle.machine.specs.declared.Header.{Header}
+use Rattle.machine.specs.declared.Entry.{Entry}
+use Rattle.machine.specs.State.{Machine}
+use Rattle.machine.specs.Names.{names, slot, isNew, register, registered, numbered}
+use Rattle.machine.specs.Queue.{unpackedEntry, front, pop, push}
+use Rattle.machine.specs.Soundness.{validSize, validQueue, headerTests, soundHeader, soundEntry}
+use Rattle.machine.specs.Step.{counted}
+use Rattle.machine.proofs.Names.{Shape, register-shape, length-names, take-held, names-register}
+
+-- the header's arrays, and each test of 01's
+pub record SoundHeader (m : Machine) : Type 0 where
+  pub shape : Shape (m .header)
+  pub size : validSize (m .header .size) ≡ true
+  pub core : length (m .core) ≡ m .header .size
+  pub queue : validQueue (length (m .queue)) ≡ true
+  pub limit : m .header .length ≤ length (m .queue)
+  pub head : m .header .head < length (m .queue)
+  pub few : m .header .held ≤ 16
+  pub lengths : every (λ k. leb 1 k && leb k 32) (take (m .header .held) (m .header .lengths)) ≡ true
+  pub bytes : every (every validByte) (names (m .header)) ≡ true
+  pub unlike : distinct (names (m .header)) ≡ true
+  pub sum : total (take (m .header .held) (m .header .counts)) ≡ m .header .length
+
+pub sound-header : (m : Machine) → Shape (m .header) → soundHeader m ≡ true → SoundHeader m
+unfolding soundHeader
+sound-header m s e =
+    let h = holds (headerTests m) e in
+    record {
+      shape = s;
+      size = h .0;
+      core = sym (eqb-true _ _ (h .1 .0));
+      queue = h .1 .1 .0;
+      limit = leb-true _ _ (h .1 .1 .1 .0);
+      head = ltb-true _ _ (h .1 .1 .1 .1 .0);
+      few = leb-true _ _ (h .1 .1 .1 .1 .1 .0);
+      lengths = h .1 .1 .1 .1 .1 .1 .0;
+      bytes = h .1 .1 .1 .1 .1 .1 .1 .0;
+      unlike = h .1 .1 .1 .1 .1 .1 .1 .1 .0;
+      sum = eqb-true _ _ (h .1 .1 .1 .1 .1 .1 .1 .1 .1 .0);
+    }
+
+pub header-sound : (m : Machine) → SoundHeader m → soundHeader m ≡ true
+unfolding soundHeader
+header-sound m s =
+    rw (s .size, eq-eqb (m .header .size) (length (m .core)) (sym (s .core)), s .queue, le-leb _ _ (s .limit), lt-ltb _ _ (s .head), le-leb _ _ (s .few), s .lengths, s .bytes, s .unlike, eq-eqb _ _ (s .sum))
+
+module _ (m : Machine) (s : SoundHeader m) where
+  pub size-positive : 0 < m .header .size
+  size-positive = leb-true _ _ (both (leb 1 (m .header .size)) (leb (m .header .size) 46341) (s .size) .0)
+
+  pub size-small : m .header .size ≤ 65536
+  size-small = let h : m .header .size ≤ 46341 = leb-true _ _ (both (leb 1 (m .header .size)) (leb (m .header .size) 46341) (s .size) .1) in omega arith
+
+  pub counts-long : m .header .held ≤ length (m .header .counts)
+  counts-long = omega (arith, s .few, s .shape .counts)
+
+  -- a held name has at most 32 bytes
+  pub name-short : (i : ℕ) → i < m .header .held → getD (m .header .lengths) i 0 ≤ 32
+  name-short i h =
+      leb-true _ _ (both (leb 1 (getD (m .header .lengths) i 0)) (leb (getD (m .header .lengths) i 0) 32)
+      (subst (λ (k : ℕ). (leb 1 k && leb k 32) ≡ true) (getD-take (m .header .held) (m .header .lengths) i 0 h)
+      (every-at (λ k. (leb 1 k && leb k 32) ≡ true) (take (m .header .held) (m .header .lengths)) i 0
+      (every-passes (λ k. leb 1 k && leb k 32) (take (m .header .held) (m .header .lengths)) (s .lengths))
+      (rw (length-take-le (m .header .held) (m .header .lengths) (omega (arith, s .shape .lengths, s .few))) h))) .1)
+
+  -- one count set: the sum changes by it
+  total-counts : (i v : ℕ) → i < m .header .held
+      → total (take (m .header .held) (set (m .header .counts) i v)) + getD (m .header .counts) i 0 ≡ m .header .length + v
+  total-counts i v h =
+      ap (λ (l : List ℕ). total l + getD (m .header .counts) i 0) (take-set-lt (m .header .held) (m .header .counts) i v h)
+      ∙ ap (λ (k : ℕ). total (set (take (m .header .held) (m .header .counts)) i v) + k) (sym (getD-take (m .header .held) (m .header .counts) i 0 h))
+      ∙ total-set (take (m .header .held) (m .header .counts)) i v (rw (length-take-le (m .header .held) (m .header .counts) counts-long) h)
+      ∙ ap (λ (k : ℕ). k + v) (s .sum)
+
+  pub pop-sound : 0 < m .header .length → unpackedEntry (front m) .name < m .header .held
+      → 1 ≤ getD (m .header .counts) (unpackedEntry (front m) .name) 0 → SoundHeader (pop m)
+  unfolding pop
+  pop-sound some held one =
+      record {
+        shape = record {
+          names = s .shape .names;
+          lengths = s .shape .lengths;
+          counts = length-set (m .header .counts) _ _ ∙ s .shape .counts;
+          threads = s .shape .threads;
+        };
+        size = s .size;
+        core = s .core;
+        queue = s .queue;
+        limit = let a = s .limit in omega arith;
+        head = mod-lt (m .header .head + 1) (omega (arith, s .head));
+        few = s .few;
+        lengths = s .lengths;
+        bytes = s .bytes;
+        unlike = s .unlike;
+        sum =
+            let i = unpackedEntry (front m) .name in
+            let a = total-counts i (getD (m .header .counts) i 0 - 1) held in
+            omega arith;
+      }
+
+  pub push-sound : (e : Entry) → e .name < m .header .held → m .header .length < length (m .queue) → SoundHeader (push e m)
+  unfolding push
+  push-sound e held room =
+      record {
+        shape = record {
+          names = s .shape .names;
+          lengths = s .shape .lengths;
+          counts = length-set (m .header .counts) _ _ ∙ s .shape .counts;
+          threads = s .shape .threads;
+        };
+        size = s .size;
+        core = s .core;
+        queue = rw (length-set (m .queue) _ _) (s .queue);
+        limit = rw (length-set (m .queue) _ _) (omega arith);
+        head = rw (length-set (m .queue) _ _) (s .head);
+        few = s .few;
+        lengths = s .lengths;
+        bytes = s .bytes;
+        unlike = s .unlike;
+        sum = let a = total-counts (e .name) (getD (m .header .counts) (e .name) 0 + 1) held in omega arith;
+      }
+
+  -- count one step, with another core
+  pub counted-sound : (core : List ℕ) → length core ≡ m .header .size → SoundHeader (counted core m)
+  unfolding counted
+  counted-sound core c =
+      record {
+        shape = record { names = s .shape .names; lengths = s .shape .lengths; counts = s .shape .counts; threads = s .shape .threads };
+        size = s .size;
+        core = c;
+        queue = s .queue;
+        limit = s .limit;
+        head = s .head;
+        few = s .few;
+        lengths = s .lengths;
+        bytes = s .bytes;
+        unlike = s .unlike;
+        sum = s .sum;
+      }
+
+-- the same queue memory beside another core and header
+abbrev pub holding : List ℕ → Header → Machine → Machine
+holding core h m = record { core = core; queue = m .queue; header = h }
+
+module _ (m : Machine) (s : SoundHeader m) (core : List ℕ) (c : length core ≡ m .header .size) where
+  -- a next thread number
+  pub numbered-sound : (i : ℕ) → SoundHeader (holding core (numbered i (m .header)) m)
+  unfolding numbered
+  numbered-sound i =
+      record {
+        shape = record {
+          names = s .shape .names;
+          lengths = s .shape .lengths;
+          counts = s .shape .counts;
+          threads = length-set (m .header .threads) _ _ ∙ s .shape .threads;
+        };
+        size = s .size;
+        core = c;
+        queue = s .queue;
+        limit = s .limit;
+        head = s .head;
+        few = s .few;
+        lengths = s .lengths;
+        bytes = s .bytes;
+        unlike = s .unlike;
+        sum = s .sum;
+      }
+
+  module _ (n : List ℕ) (fits : length n ≤ 32) (some : 1 ≤ length n) (valid : every validByte n ≡ true) where
+    register-sound : slot (m .header) n ≡ m .header .held → m .header .held < 16 → SoundHeader (holding core (register (m .header) n) m)
+    unfolding register
+    register-sound e small =
+        let h = m .header in
+        let news = names-register h n (s .shape) small fits (name-short m s) in
+        record {
+          shape = register-shape h n (s .shape);
+          size = s .size;
+          core = c;
+          queue = s .queue;
+          limit = s .limit;
+          head = s .head;
+          few = omega arith;
+          lengths =
+              ap (every (λ k. leb 1 k && leb k 32)) (take-held h (h .lengths) (length n) (omega (arith, s .shape .lengths)))
+              ∙ every-snoc (λ k. leb 1 k && leb k 32) (take (h .held) (h .lengths)) (length n) (s .lengths) (rw (le-leb _ _ some, le-leb _ _ fits));
+          bytes = ap (every (every validByte)) news ∙ every-snoc (every validByte) (names h) n (s .bytes) valid;
+          unlike = ap distinct news ∙ distinct-snoc (names h) n (s .unlike) (e ∙ sym (length-names h));
+          sum = ap total (take-held h (h .counts) 0 (omega (arith, s .shape .counts))) ∙ total-snoc (take (h .held) (h .counts)) ∙ s .sum;
+        }
+
+    -- a name, held or new
+    pub registered-sound : (isNew (m .header) n && eqb (m .header .held) 16) ≡ false → SoundHeader (holding core (registered (m .header) n) m)
+    registered-sound free = go (isNew (m .header) n) refl free
+      where
+        go : (b : Bool) → isNew (m .header) n ≡ b → (b && eqb (m .header .held) 16) ≡ false
+            → SoundHeader (holding core (cond b (register (m .header) n) (m .header)) m)
+        go true e free = let k : m .header .held ≡ 16 → ⊥ = eqb-false _ _ free in register-sound (eqb-true _ _ e) (omega (arith, s .few))
+        go false e free =
+            record {
+              shape = s .shape;
+              size = s .size;
+              core = c;
+              queue = s .queue;
+              limit = s .limit;
+              head = s .head;
+              few = s .few;
+              lengths = s .lengths;
+              bytes = s .bytes;
+              unlike = s .unlike;
+              sum = s .sum;
+            }
+
+-- the tests of a front entry
+pub record SoundEntry (h : Header) (w : ℕ) : Type 0 where
+  pub held : unpackedEntry w .name < h .held
+  pub count : 1 ≤ getD (h .counts) (unpackedEntry w .name) 0
+  pub place : unpackedEntry w .place .0 < h .size
+  pub top : w / 2 ^ 52 ≡ 0
+
+pub sound-entry : (h : Header) (w : ℕ) → soundEntry h w ≡ true → SoundEntry h w
+unfolding soundEntry
+sound-entry h w e =
+    let i = unpackedEntry w .name in
+    let held = ltb i (h .held) in
+    let count = leb 1 (getD (h .counts) i 0) in
+    let place = ltb (unpackedEntry w .place .0) (h .size) in
+    let p = both (held && count && place) (eqb (w / 2 ^ 52) 0) e in
+    let q = both (held && count) place (p .0) in
+    let r = both held count (q .0) in
+    record { held = ltb-true _ _ (r .0); count = leb-true _ _ (r .1); place = ltb-true _ _ (q .1); top = eqb-true _ _ (p .1) }
+
+pub entry-sound : (h : Header) (w : ℕ) → SoundEntry h w → soundEntry h w ≡ true
+unfolding soundEntry
+entry-sound h w s = rw (lt-ltb _ _ (s .held), le-leb _ _ (s .count), lt-ltb _ _ (s .place), eq-eqb _ _ (s .top))
