@@ -19,7 +19,7 @@ use Rattle.machine.specs.Step.{counted}
 use Rattle.machine.proofs.Entries.{packed-name}
 use Rattle.machine.proofs.Queue.{tally-pop, every-pop, tally-push, every-push}
 use Rattle.machine.proofs.Names.{length-names, names-register, count-register, Held, held-slot, held-register, count-lower, count-raise}
-use Rattle.machine.proofs.Soundness.{SoundHeader, counts-long, name-short, push-sound, holding, numbered-sound}
+use Rattle.machine.proofs.Soundness.{SoundHeader, counts-long, name-short, holding, numbered-sound}
 
 -- each entry's name is held
 abbrev pub Known : ℕ → List ℕ → Type 0
@@ -134,10 +134,6 @@ module _ (place i : ℕ) (m : Machine) (t : List ℕ) (s : SoundHeader m) (r : H
   started-entries n =
       push-entries numberedMachine newEntry t (numbered-sound m s (m .core) (s .core) i) numbered-held numbered-agree numbered-room n
       ∙ ap (λ (k : ℕ). k + oneIf (same t n)) (numbered-entries n)
-
-  pub started-sound : SoundHeader (started place i m)
-  unfolding started
-  started-sound = push-sound numberedMachine (numbered-sound m s (m .core) (s .core) i) newEntry (numbered-held .below) numbered-room
 
 -- registering: the name is held at its slot, and no name's entries and count change
 pub record Registered (m m′ : Machine) (n : List ℕ) : Type 0 where

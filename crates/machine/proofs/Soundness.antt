@@ -21,7 +21,7 @@ use Rattle.machine.specs.declared.Header.{Header}
 use Rattle.machine.specs.declared.Entry.{Entry}
 use Rattle.machine.specs.State.{Machine}
 use Rattle.machine.specs.Names.{names, slot, isNew, register, registered, numbered}
-use Rattle.machine.specs.Queue.{unpackedEntry, front, pop, push}
+use Rattle.machine.specs.Queue.{entry, unpackedEntry, front, pop, push, started}
 use Rattle.machine.specs.Soundness.{validSize, validQueue, headerTests, soundHeader, soundEntry}
 use Rattle.machine.specs.Step.{counted}
 use Rattle.machine.proofs.Names.{Shape, register-shape, length-names, take-held, names-register}
@@ -228,6 +228,14 @@ module _ (m : Machine) (s : SoundHeader m) (core : List ℕ) (c : length core �
               unlike = s .unlike;
               sum = s .sum;
             }
+
+-- a process started
+pub started-sound : (place i : ℕ) (m : Machine) → SoundHeader m → i < m .header .held → m .header .length < length (m .queue)
+    → SoundHeader (started place i m)
+unfolding started numbered
+started-sound place i m s held room =
+    push-sound (holding (m .core) (numbered i (m .header)) m) (numbered-sound m s (m .core) (s .core) i)
+    (entry place (getD (m .header .threads) i 0) i) held room
 
 -- the tests of a front entry
 pub record SoundEntry (h : Header) (w : ℕ) : Type 0 where

@@ -143,3 +143,7 @@ stepChecks m =
 
 unfoldable pub step : Machine → Outcome
 step m = settle (first (stepChecks m)) m (executed m)
+
+-- a step answered 0, 11 or 12 executes one instruction
+abbrev pub executes : ℕ → Bool
+executes number = among (0 ∷ 11 ∷ 12 ∷ []) number
