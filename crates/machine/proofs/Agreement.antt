@@ -8,17 +8,17 @@ use mathlib.Core.List.{List, [], _∷_, _++_}
 use native.Mathlib.Omega.{arith}
 use lib.Dec.{eqb}
 use lib.ListN.{length, getD, List·getD-append}
-use borrow.Author.Tests.{eqb-true, eqb-false}
+use borrow.Author.Tests.{eqb-false}
 use Rattle.laws.specs.Lists.{oneIf, tally, same}
 use Rattle.laws.proofs.Every.{Every, every-weaker}
 use Rattle.machine.specs.declared.Entry.{Entry}
 use Rattle.machine.specs.State.{Machine}
-use Rattle.machine.specs.Names.{names, slot, isNew, countOf, register, registered, numbered}
+use Rattle.machine.specs.Names.{names, isNew, countOf, register, registered, numbered}
 use Rattle.machine.specs.Queue.{entry, packedEntry, unpackedEntry, entries, nameOf, entriesOf, front, pop, push, started}
 use Rattle.machine.specs.Step.{counted}
 use Rattle.machine.proofs.Entries.{packed-name}
 use Rattle.machine.proofs.Queue.{tally-pop, every-pop, tally-push, every-push}
-use Rattle.machine.proofs.Names.{length-names, names-register, count-register, Held, held-slot, held-register, count-lower, count-raise}
+use Rattle.machine.proofs.Names.{length-names, names-register, count-register, Held, count-lower, count-raise}
 use Rattle.machine.proofs.Soundness.{SoundHeader, counts-long, name-short, holding, numbered-sound}
 
 -- each entry's name is held
@@ -92,14 +92,6 @@ pub counted-held : (core : List ℕ) (m : Machine) {i : ℕ} {t : List ℕ} → 
 unfolding counted
 counted-held core m r = record { below = r .below; own = r .own; at = r .at }
 
-pub holding-entries : (core : List ℕ) (m : Machine) (n : List ℕ) → entriesOf (holding core (m .header) m) n ≡ entriesOf m n
-unfolding entries
-holding-entries core m n = refl
-
-pub holding-agree : (core : List ℕ) (m : Machine) → Agree m → Agree (holding core (m .header) m)
-unfolding entries
-holding-agree core m a = record { known = a .known; counts = a .counts }
-
 -- a process started: one entry of its name more
 module _ (place i : ℕ) (m : Machine) (t : List ℕ) (s : SoundHeader m) (r : Held (m .header) i t) (a : Agree m)
     (room : m .header .length < length (m .queue)) where
@@ -135,19 +127,19 @@ module _ (place i : ℕ) (m : Machine) (t : List ℕ) (s : SoundHeader m) (r : H
       push-entries numberedMachine newEntry t (numbered-sound m s (m .core) (s .core) i) numbered-held numbered-agree numbered-room n
       ∙ ap (λ (k : ℕ). k + oneIf (same t n)) (numbered-entries n)
 
--- registering: the name is held at its slot, and no name's entries and count change
-pub record Registered (m m′ : Machine) (n : List ℕ) : Type 0 where
+-- registering changes no name's entries and count
+pub record Registered (m m′ : Machine) : Type 0 where
   pub agree : Agree m′
-  pub held : Held (m′ .header) (slot (m .header) n) n
-  pub entries : (x : List ℕ) → entriesOf m′ x ≡ entriesOf m x
+  pub entries : (n : List ℕ) → entriesOf m′ n ≡ entriesOf m n
 
 module _ (m : Machine) (n : List ℕ) (s : SoundHeader m) (a : Agree m) where
   -- a held name
-  held-registered : (core : List ℕ) → isNew (m .header) n ≡ false → Registered m (holding core (m .header) m) n
-  held-registered core e = record { agree = holding-agree core m a; held = held-slot (m .header) n e; entries = holding-entries core m }
+  held-registered : (core : List ℕ) → Registered m (holding core (m .header) m)
+  unfolding entries
+  held-registered core = record { agree = record { known = a .known; counts = a .counts }; entries = λ x. refl }
 
   -- a new name
-  module _ (e : slot (m .header) n ≡ m .header .held) (small : m .header .held < 16) (fits : length n ≤ 32) where
+  module _ (small : m .header .held < 16) (fits : length n ≤ 32) where
     news : names (register (m .header) n) ≡ names (m .header) ++ (n ∷ [])
     news = names-register (m .header) n (s .shape) small fits (name-short m s)
 
@@ -173,16 +165,16 @@ module _ (m : Machine) (n : List ℕ) (s : SoundHeader m) (a : Agree m) where
           counts = λ x. count-register (m .header) n (s .shape) small fits (name-short m s) x ∙ a .counts x ∙ sym (new-entries core x);
         }
 
-    new-registered : (core : List ℕ) → Registered m (holding core (register (m .header) n) m) n
-    new-registered core = record { agree = new-agree core; held = held-register (m .header) n news e; entries = new-entries core }
+    new-registered : (core : List ℕ) → Registered m (holding core (register (m .header) n) m)
+    new-registered core = record { agree = new-agree core; entries = new-entries core }
 
   pub is-registered : (core : List ℕ) → (isNew (m .header) n && eqb (m .header .held) 16) ≡ false → length n ≤ 32
-      → Registered m (holding core (registered (m .header) n) m) n
+      → Registered m (holding core (registered (m .header) n) m)
   is-registered core free fits = go (isNew (m .header) n) refl free
     where
       go : (b : Bool) → isNew (m .header) n ≡ b → (b && eqb (m .header .held) 16) ≡ false
-          → Registered m (holding core (cond b (register (m .header) n) (m .header)) m) n
-      go false e free = held-registered core e
+          → Registered m (holding core (cond b (register (m .header) n) (m .header)) m)
+      go false e free = held-registered core
       go true e free =
           let k : m .header .held ≡ 16 → ⊥ = eqb-false _ _ free in
-          new-registered (eqb-true _ _ e) (omega (arith, s .few)) fits core
+          new-registered (omega (arith, s .few)) fits core

@@ -24,7 +24,7 @@ use Rattle.machine.specs.Names.{names, slot, isNew, register, registered
 use Rattle.machine.specs.Queue.{entry, unpackedEntry, front, pop, push, started}
 use Rattle.machine.specs.Soundness.{validSize, validQueue, headerTests, soundHeader, soundEntry}
 use Rattle.machine.specs.Step.{counted}
-use Rattle.machine.proofs.Names.{Shape, register-shape, length-names, take-held, names-register}
+use Rattle.machine.proofs.Names.{Shape, register-shape, length-names, take-held, names-register, Held, held-slot, held-register}
 
 -- the header's arrays, and each test of 01's
 pub record SoundHeader (m : Machine) : Type 0 where
@@ -228,6 +228,18 @@ module _ (m : Machine) (s : SoundHeader m) (core : List ℕ) (c : length core �
               unlike = s .unlike;
               sum = s .sum;
             }
+
+-- a registered name is held at its slot
+pub registered-held : (m : Machine) (n : List ℕ) → SoundHeader m → (isNew (m .header) n && eqb (m .header .held) 16) ≡ false → length n ≤ 32
+    → Held (registered (m .header) n) (slot (m .header) n) n
+registered-held m n s free fits = go (isNew (m .header) n) refl free
+  where
+    go : (b : Bool) → isNew (m .header) n ≡ b → (b && eqb (m .header .held) 16) ≡ false
+        → Held (cond b (register (m .header) n) (m .header)) (slot (m .header) n) n
+    go false e free = held-slot (m .header) n e
+    go true e free =
+        let k : m .header .held ≡ 16 → ⊥ = eqb-false _ _ free in
+        held-register (m .header) n (names-register (m .header) n (s .shape) (omega (arith, s .few)) fits (name-short m s)) (eqb-true _ _ e)
 
 -- a process started
 pub started-sound : (place i : ℕ) (m : Machine) → SoundHeader m → i < m .header .held → m .header .length < length (m .queue)
