@@ -2,7 +2,7 @@
 -- found of its checks and leaves. Of a sound record the header stays sound.
 -- Assumes nothing.
 use Prim.Native.Nat.{ℕ, _+_, _≤_, _<_}
-use mathlib.Core.Path.{_≡_, refl, sym, ap, _∙_}
+use mathlib.Core.Path.{_≡_, refl, sym, ap, ap₂, _∙_}
 use mathlib.Core.Bool.{Bool, true, false, cond, not, _&&_, true≢false}
 use mathlib.Core.List.{List, [], _∷_}
 use native.Mathlib.Omega.{arith}
@@ -21,7 +21,7 @@ use Rattle.program.proofs.Metadata.{called-valid}
 use Rattle.machine.specs.declared.Header.{Header}
 use Rattle.machine.specs.State.{Machine, Outcome, Verdict, accepted, refusal, first, settle}
 use Rattle.machine.specs.Names.{slot, isNew, register, registered, numbered}
-use Rattle.machine.specs.Queue.{full, push, started}
+use Rattle.machine.specs.Queue.{slots, entries, push, started}
 use Rattle.machine.specs.Load.{blank, freshChecks, freshMachine, fresh, placed, originOf, loaded, loadChecks, load}
 use Rattle.machine.proofs.Checks.{passes, number-of, Refused, refused}
 use Rattle.machine.proofs.Names.{Held}
@@ -70,6 +70,7 @@ placed-sound size (w ∷ ws) core p e c = placed-sound size ws (set core p w) (a
 -- registering leaves the numbers of the header alone
 record Renamed (h h′ : Header) : Type 0 where
   size : h′ .size ≡ h .size
+  head : h′ .head ≡ h .head
   length : h′ .length ≡ h .length
   steps : h′ .steps ≡ h .steps
 
@@ -78,8 +79,8 @@ unfolding register
 renamed h n = go (isNew h n)
   where
     go : (b : Bool) → Renamed h (cond b (register h n) h)
-    go true = record { size = refl; length = refl; steps = refl }
-    go false = record { size = refl; length = refl; steps = refl }
+    go true = record { size = refl; head = refl; length = refl; steps = refl }
+    go false = record { size = refl; head = refl; length = refl; steps = refl }
 
 -- an accepted load: what its checks told
 pub record Loadable (m : Machine) (given body : List ℕ) (place : ℕ) : Type 0 where
@@ -114,22 +115,36 @@ pub record Loaded (m : Machine) (body : List ℕ) (place : ℕ) (o : Outcome) : 
   pub writes : o .writes ≡ instructions body
   pub pushes : o .pushes ≡ 1
 
-module _ (m : Machine) (given body : List ℕ) (origin place : ℕ) where
+module _ (m : Machine) (given body : List ℕ) (place : ℕ) where
   -- the body in the core and the name held; the entry is pushed next
   abbrev pub placing : Machine
   placing = holding (placed (m .core) place (cells (m .header .size) body)) (registered (m .header) (called given)) m
 
+  pub placing-room : m .header .length < length (m .queue) → placing .header .length < length (m .queue)
+  placing-room h = rw (renamed (m .header) (called given) .length) h
+
+  pub placing-entries : entries placing ≡ entries m
+  unfolding entries
+  placing-entries = let r = renamed (m .header) (called given) in ap₂ (slots (m .queue)) (r .head) (r .length)
+
+  pub placing-size : placing .header .size ≡ m .header .size
+  placing-size = renamed (m .header) (called given) .size
+
+  pub placing-sound : SoundHeader m → Loadable m given body place → SoundHeader placing
+  placing-sound s l =
+      let v = called-valid given (l .valid) in
+      registered-sound m s (placed (m .core) place (cells (m .header .size) body))
+      (length-placed (cells (m .header .size) body) (m .core) place ∙ s .core) (called given) (v .0) (v .1) (v .2) (l .free)
+
+  pub placing-held : SoundHeader m → Loadable m given body place → Held (placing .header) (slot (m .header) (called given)) (called given)
+  placing-held s l = registered-held m (called given) s (l .free) (called-valid given (l .valid) .0)
+
+module _ (m : Machine) (given body : List ℕ) (origin place : ℕ) where
   pub is-loaded : Loaded m body place (loaded m (called given) body origin place)
   unfolding loaded started push numbered
   is-loaded =
       let r = renamed (m .header) (called given) in
       record { core = refl; queue = length-set (m .queue) _ _; size = r .size; steps = r .steps; number = refl; writes = refl; pushes = refl }
-
-  pub placing-room : m .header .length < length (m .queue) → placing .header .length < length (m .queue)
-  placing-room h = rw (renamed (m .header) (called given) .length) h
-
-  pub placing-size : placing .header .size ≡ m .header .size
-  placing-size = renamed (m .header) (called given) .size
 
   -- a load is refused, and leaves the machine as it was, or it is accepted
   pub load-by-cases : (P : Outcome → Type 0)
@@ -167,19 +182,11 @@ module _ (m : Machine) (given body : List ℕ) (origin place : ℕ) where
       (λ e. (ap length (is-loaded .core) ∙ length-placed (cells (m .header .size) body) (m .core) place, is-loaded .queue, is-loaded .size))
 
   -- a sound header stays sound
-  pub placing-sound : SoundHeader m → Loadable m given body place → SoundHeader placing
-  placing-sound s l =
-      let v = called-valid given (l .valid) in
-      registered-sound m s (placed (m .core) place (cells (m .header .size) body))
-      (length-placed (cells (m .header .size) body) (m .core) place ∙ s .core) (called given) (v .0) (v .1) (v .2) (l .free)
-
-  pub placing-held : SoundHeader m → Loadable m given body place → Held (placing .header) (slot (m .header) (called given)) (called given)
-  placing-held s l = registered-held m (called given) s (l .free) (called-valid given (l .valid) .0)
-
-  loaded-sound : SoundHeader m → Loadable m given body place → SoundHeader (loaded m (called given) body origin place .machine)
+  pub loaded-sound : SoundHeader m → Loadable m given body place → SoundHeader (loaded m (called given) body origin place .machine)
   unfolding loaded
   loaded-sound s l =
-      started-sound _ (slot (m .header) (called given)) placing (placing-sound s l) (placing-held s l .below) (placing-room (l .room))
+      started-sound _ (slot (m .header) (called given)) (placing m given body place) (placing-sound m given body place s l)
+      (placing-held m given body place s l .below) (placing-room m given body place (l .room))
 
   pub load-sound : SoundHeader m → SoundHeader (load m given body origin place .machine)
   load-sound s = load-by-cases (λ o. SoundHeader (o .machine)) (λ n v e x. s) (λ e. loaded-sound s (loadable m given body place e))

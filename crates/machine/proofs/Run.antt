@@ -99,6 +99,20 @@ module _ (P : Machine → Type 0) (kept : (m : Machine) → P m → P (step m .m
       go true = plays-keeps (ceilingOf c - m .header .steps) m h
       go false = h
 
+  -- and what holds of 0 and of every step's answer holds of a run's
+  module _ (Q : ℕ → Type 0) (done : Q 0) (answers : (m : Machine) → P m → Q (step m .number)) where
+    plays-answers : (k : ℕ) (m : Machine) → P m → Q (plays k m .number)
+    plays-answers zero m h = done
+    plays-answers (suc k) m h = go (eqb (step m .number) 0) (answers m h) (plays-answers k (step m .machine) (kept m h))
+      where
+        go : (b : Bool) → Q (step m .number) → Q (plays k (step m .machine) .number)
+            → Q (cond {A = Outcome} b (joined (step m) (plays k (step m .machine))) (step m) .number)
+        go true x y = y
+        go false x y = x
+
+    pub run-answers : (c : Ceiling) (m : Machine) → soundHeader m ≡ true → P m → Q (run c m .number)
+    run-answers c m e h = rw (run-plays c m e) (plays-answers (ceilingOf c - m .header .steps) m h)
+
 -- the lengths of core and queue, and the size
 pub run-lengths : (c : Ceiling) (m : Machine)
     → (length (run c m .machine .core) ≡ length (m .core)) × (length (run c m .machine .queue) ≡ length (m .queue)) × (run c m .machine .header .size ≡ m .header .size)

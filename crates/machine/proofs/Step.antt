@@ -207,7 +207,7 @@ pub record Ready (m : Machine) : Type 0 where
   pub header : SoundHeader m
   pub entry : SoundEntry (m .header) (front m)
 
-nonzero : {k : ℕ} → eqb k 0 ≡ false → 0 < k
+pub nonzero : {k : ℕ} → eqb k 0 ≡ false → 0 < k
 nonzero {k} h = let f : k ≡ 0 → ⊥ = eqb-false k 0 h in omega arith
 
 pub step-some : (m : Machine) → first (stepChecks m) ≡ accepted → 0 < m .header .length
