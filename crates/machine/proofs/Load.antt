@@ -58,6 +58,14 @@ module _ (size : ℕ) (core queue : List ℕ) where
       fresh-by-cases (λ o. o .number ≡ 0 → (first (freshChecks size core queue) ≡ accepted) × (o .machine ≡ freshMachine size core queue))
       (λ n v x z. absurd (true≢false (sym (rw z) ∙ x))) (λ e z. (e, refl))
 
+-- it makes the same machine of any memories of the same lengths
+pub fresh-lengths : (size : ℕ) (core queue core′ queue′ : List ℕ) → length core′ ≡ length core → length queue′ ≡ length queue
+    → fresh size core queue .number ≡ 0 → fresh size core′ queue′ .machine ≡ fresh size core queue .machine
+unfolding fresh
+fresh-lengths size core queue core′ queue′ a b ok =
+    let e : first (freshChecks size core queue) ≡ accepted = fresh-accepted size core queue ok .0 in
+    rw (a, b, e)
+
 -- the body in the core
 pub length-placed : (ws core : List ℕ) (p : ℕ) → length (placed core p ws) ≡ length core
 length-placed [] core p = refl
