@@ -1,27 +1,31 @@
--- How a step and a load that passed their checks change the entries of each name.
+-- How a step and a load that passed their checks change the entries of each name, and what a step's answer says of them.
 -- Assumes nothing.
 use Prim.Native.Nat.{ℕ, _+_, _*_, _≤_, _<_}
-use mathlib.Core.Path.{_≡_, ap, _∙_}
+use mathlib.Core.Path.{_≡_, refl, sym, ap, subst, _∙_}
+use mathlib.Core.Bool.{Bool, true, false, cond, not, true≢false}
 use mathlib.Core.List.{List}
 use native.Mathlib.Omega.{arith}
-use lib.ListN.{length}
-use borrow.Author.Tests.{leb-false}
+use lib.Dec.{eqb}
+use lib.ListN.{length, getD}
+use borrow.Author.Tests.{leb-false, ne-eqb}
 use Rattle.laws.specs.Lists.{oneIf, same}
+use Rattle.laws.proofs.Same.{same-refl}
+use Rattle.answer.specs.Numbers.{Told, gives}
 use Rattle.load_file.specs.Offset.{ahead}
 use Rattle.program.specs.Metadata.{called}
 use Rattle.program.proofs.Metadata.{called-valid}
 use Rattle.machine.specs.declared.Entry.{Entry}
 use Rattle.machine.specs.State.{Machine, Outcome}
 use Rattle.machine.specs.Names.{slot}
-use Rattle.machine.specs.Queue.{entry, nameOf, entriesOf, front, pop, push}
+use Rattle.machine.specs.Queue.{entry, nameOf, entriesOf, front, full, pop, push, started}
 use Rattle.machine.specs.Load.{originOf, loaded}
-use Rattle.machine.specs.Execution.{Next}
-use Rattle.machine.specs.Step.{popped, effect, coreAfter, Queued, queued, executed}
-use Rattle.machine.proofs.Names.{Held}
-use Rattle.machine.proofs.Soundness.{SoundHeader, push-sound}
+use Rattle.machine.specs.Execution.{Ending, dat, divisor, Next, ends, goes, splits}
+use Rattle.machine.specs.Step.{popped, pc, effect, coreAfter, Queued, queued, endTold, nextTold, executed, step, executes}
+use Rattle.machine.proofs.Names.{Shape, Held, count-at}
+use Rattle.machine.proofs.Soundness.{SoundHeader, counts-long, push-sound}
 use Rattle.machine.proofs.Agreement.{Agree, pop-entries, pop-agree, pop-held, push-entries, push-agree, push-held, counted-agree, counted-entries, counted-held, started-entries, started-agree, is-registered}
 use Rattle.machine.proofs.Load.{Loadable, placing, placing-room, placing-sound, placing-held}
-use Rattle.machine.proofs.Step.{queued-by-cases, any-places, Ready, front-held, counting, counting-sound, counting-room}
+use Rattle.machine.proofs.Step.{queued-by-cases, any-places, step-by-cases, Ready, ready, front-held, counting, counting-sound, counting-room}
 
 -- the entries of a name after the pushes of a step
 record Grown (m : Machine) (t : List ℕ) (q : Queued) : Type 0 where
@@ -98,3 +102,60 @@ begun m given body origin place s a l =
       agree = started-agree p i n t b h (g .agree) room;
       entries = λ x. started-entries p i n t b h (g .agree) room x ∙ ap (λ (k : ℕ). k + oneIf (same t x)) (g .entries x);
     }
+
+-- the answer is 0 exactly where the popped entry's name has entries left
+module _ (e : Entry) (m : Machine) (t : List ℕ) (s : SoundHeader m) (r : Held (m .header) (e .name) t) (a : Agree m)
+    (room : m .header .length < length (m .queue)) (place : ℕ) where
+  abbrev left : ℕ
+  left = getD (m .header .counts) (e .name) 0
+
+  some-left : (x : Next) → 1 ≤ queued x e m .pushes → eqb (entriesOf (queued x e m .machine) t) 0 ≡ false
+  some-left x p =
+      let g : entriesOf (queued x e m .machine) t ≡ entriesOf m t + queued x e m .pushes * 1
+      = subst (λ (b : Bool). entriesOf (queued x e m .machine) t ≡ entriesOf m t + queued x e m .pushes * oneIf b) (same-refl t) (grown x e m t s r a room .entries t) in
+      ne-eqb _ 0 (λ (z : entriesOf (queued x e m .machine) t ≡ 0). let f : ⊥ = omega arith in f)
+
+  split-pushes : (p c : ℕ) → 1 ≤ queued (splits p c) e m .pushes
+  split-pushes p c = go (full (push (entry p (e .thread) (e .name)) m))
+    where
+      go : (b : Bool)
+          → 1 ≤ cond {A = Queued} b (record { machine = push (entry p (e .thread) (e .name)) m; pushes = 1 })
+          (record { machine = started c (e .name) (push (entry p (e .thread) (e .name)) m); pushes = 2 }) .pushes
+      go true = omega arith
+      go false = omega arith
+
+  answer-left : (x : Next) → eqb (nextTold x left place .number) 0 ≡ not (eqb (entriesOf (queued x e m .machine) t) 0)
+  answer-left (goes p) = rw (some-left (goes p) (omega arith))
+  answer-left (splits p c) = rw (some-left (splits p c) (split-pushes p c))
+  answer-left (ends x) =
+      go x (eqb left 0)
+      ∙ ap (λ (k : ℕ). not (eqb k 0)) (sym (count-at (m .header) t (e .name) r (counts-long m s)) ∙ a .counts t)
+    where
+      go : (x : Ending) (b : Bool) → eqb (cond {A = Told} b (endTold x place) (gives 0 0) .number) 0 ≡ not b
+      go dat true = refl
+      go dat false = refl
+      go divisor true = refl
+      go divisor false = refl
+
+pub answered : (m : Machine) → Ready m → Agree m → eqb (executed m .number) 0 ≡ not (eqb (entriesOf (executed m .machine) (nameOf m (front m))) 0)
+unfolding executed
+answered m r a =
+    let t = nameOf m (front m) in
+    let held = front-held m r in
+    answer-left (popped m) (counting m) t (counting-sound m r)
+    (counted-held (coreAfter m) (pop m) (pop-held m t (r .header) held a (r .some) (r .entry .count)))
+    (counted-agree (coreAfter m) (pop m) (pop-agree m t (r .header) held a (r .some) (r .entry .count)))
+    (counting-room m r) (pc m) (effect m .next)
+
+-- both for a step that executes an instruction
+module _ (m : Machine) (s : Shape (m .header)) (a : Agree m) where
+  pub step-entries : executes (step m .number) ≡ true → Stepped m (step m)
+  step-entries =
+      step-by-cases (λ o. executes (o .number) ≡ true → Stepped m o) m (λ n v e x t. absurd (true≢false (sym t ∙ x)))
+      (λ e t. stepped m (ready m s e) a)
+
+  pub step-answered : executes (step m .number) ≡ true
+      → eqb (step m .number) 0 ≡ not (eqb (entriesOf (step m .machine) (nameOf m (front m))) 0)
+  step-answered =
+      step-by-cases (λ o. executes (o .number) ≡ true → eqb (o .number) 0 ≡ not (eqb (entriesOf (o .machine) (nameOf m (front m))) 0)) m
+      (λ n v e x t. absurd (true≢false (sym t ∙ x))) (λ e t. answered m (ready m s e) a)

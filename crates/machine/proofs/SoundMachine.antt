@@ -8,15 +8,16 @@ use mathlib.Core.List.{List, [], _∷_}
 use mathlib.Core.Logic.{inl, inr}
 use native.Mathlib.Omega.{arith}
 use lib.Dec.{T, eqb, leb}
-use lib.ListN.{length, getD, replicate, length-replicate}
+use lib.IntN.{ℤ}
+use lib.ListN.{length, getD, length-replicate}
 use borrow.Author.Tests.{leb-true, leb-false, eqb-true, eqb-false, eq-eqb, lt-ltb, not-false}
 use Rattle.laws.specs.Lists.{oneIf, same}
 use Rattle.laws.proofs.Tests.{both, neither}
 use Rattle.laws.proofs.Every.{_and_, Every, every-replicate}
 use Rattle.laws.proofs.Same.{same-refl}
 use Rattle.load_file.specs.Cells.{freshCell, soundWord}
-use Rattle.load_file.specs.Offset.{ahead}
-use Rattle.load_file.proofs.Offsets.{ahead-lt}
+use Rattle.load_file.specs.Offset.{euclid, ahead}
+use Rattle.load_file.proofs.Offsets.{euclid-lt, ahead-lt}
 use Rattle.program.specs.Program.{cells}
 use Rattle.program.specs.Metadata.{called}
 use Rattle.program.proofs.Program.{cells-sound}
@@ -30,7 +31,7 @@ use Rattle.machine.specs.Soundness.{validQueue}
 use Rattle.machine.specs.Load.{originOf, freshChecks, freshMachine, fresh, placed, loaded, loadChecks, load}
 use Rattle.machine.specs.Execution.{Next}
 use Rattle.machine.specs.Step.{pc, popped, effect, coreAfter, counted, Queued, queued, executed, stepChecks, step, executes}
-use Rattle.machine.specs.Run.{run}
+use Rattle.machine.specs.Run.{run, read}
 use Rattle.machine.proofs.Checks.{passes, Without, without}
 use Rattle.machine.proofs.Entries.{packed-place, packed-top}
 use Rattle.machine.proofs.Queue.{tally-pop, every-pop, every-push}
@@ -237,3 +238,9 @@ module _ (m : Machine) (s : SoundMachine m) where
 
 pub run-not-nine : (c : Ceiling) (m : Machine) → SoundMachine m → run c m .number ≡ 9 → ⊥
 run-not-nine c m s = run-answers SoundMachine step-keeps (λ n. n ≡ 9 → ⊥) (other tt) step-not-nine c m (header-sound m (s .header)) s
+
+-- reading a cell of it
+pub read-done : (m : Machine) → SoundMachine m → (z : ℤ) → read m z .number ≡ 0
+unfolding read
+read-done m s z =
+    rw (header-sound m (s .header), cell-at (m .header .size) (m .core) (s .core) (euclid z (m .header .size)) (euclid-lt z (m .header .size) (size-positive m (s .header))))
