@@ -1,23 +1,22 @@
 -- Demand 3: the account of every list of calls, by one invariant that each call keeps.
 -- Assumes nothing.
 use Prim.Native.Nat.{ℕ, zero, suc, _+_, _-_, _*_, _≤_}
-use mathlib.Core.Path.{_≡_, refl, ap, ap₂, subst, _∙_}
+use mathlib.Core.Path.{_≡_, refl, ap, _∙_}
 use mathlib.Core.Bool.{Bool, true, false, cond, not, _&&_}
 use mathlib.Core.List.{List, [], _∷_}
 use native.Mathlib.Nat.{zero-add, add-zero, add-assoc}
 use native.Mathlib.Omega.{arith}
 use lib.Dec.{eqb}
-use lib.ListN.{length, replicate}
+use lib.ListN.{length}
 use Rattle.laws.specs.Lists.{oneIf, tally, same}
-use Rattle.load_file.specs.Cells.{freshCell}
 use Rattle.program.specs.Program.{instructions, cells}
 use Rattle.program.specs.Metadata.{called}
 use Rattle.program.proofs.Program.{length-cells}
 use Rattle.machine.specs.declared.Ceiling.{Ceiling}
-use Rattle.machine.specs.State.{Machine, Outcome, accepted, refusal, first, settle}
+use Rattle.machine.specs.State.{Machine, Outcome, accepted, refusal, settle}
 use Rattle.machine.specs.Queue.{entries, nameOf, entriesOf, front}
 use Rattle.machine.specs.Soundness.{soundHeader}
-use Rattle.machine.specs.Load.{blank, freshChecks, freshMachine, fresh, loaded, load}
+use Rattle.machine.specs.Load.{freshMachine, fresh, loaded, load}
 use Rattle.machine.specs.Step.{coreAfter, executed, step, executes}
 use Rattle.machine.specs.Run.{joined, plays, ceilingOf, run}
 use Rattle.machine.proofs.Step.{step-writes-three, Executed, is-executed, step-by-cases, step-some}

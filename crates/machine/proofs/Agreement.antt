@@ -14,7 +14,7 @@ use Rattle.laws.proofs.Every.{Every, every-weaker}
 use Rattle.machine.specs.declared.Entry.{Entry}
 use Rattle.machine.specs.State.{Machine}
 use Rattle.machine.specs.Names.{names, isNew, countOf, register, registered, numbered}
-use Rattle.machine.specs.Queue.{entry, packedEntry, unpackedEntry, entries, nameOf, entriesOf, front, pop, push, started}
+use Rattle.machine.specs.Queue.{entry, unpackedEntry, entries, nameOf, entriesOf, front, pop, push, started}
 use Rattle.machine.specs.Step.{counted}
 use Rattle.machine.proofs.Entries.{packed-name}
 use Rattle.machine.proofs.Queue.{tally-pop, every-pop, tally-push, every-push}

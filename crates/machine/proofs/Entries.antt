@@ -1,7 +1,7 @@
 -- Laws of the packed entry.
 -- Assumes nothing.
 use mathlib.Core.Path.{_≡_}
-use Prim.Native.Nat.{ℕ, _+_, _*_, _/_, _%_, _^_, _<_}
+use Prim.Native.Nat.{ℕ, _/_, _^_, _<_}
 use native.Mathlib.Nat.{mod-mod, mod-eq-of-lt}
 use native.Mathlib.Omega.{arith}
 use Rattle.laws.proofs.Fields.{beside, beside-low}

@@ -1,31 +1,28 @@
 -- Laws of fresh and load, for every machine: a refusal leaves it as it was; the lengths of core and queue stay; what an accepted call
 -- found of its checks and leaves. Of a sound record the header stays sound.
 -- Assumes nothing.
-use Prim.Native.Nat.{ℕ, _+_, _≤_, _<_}
+use Prim.Native.Nat.{ℕ, _≤_, _<_}
 use mathlib.Core.Path.{_≡_, refl, sym, ap, ap₂, _∙_}
-use mathlib.Core.Bool.{Bool, true, false, cond, not, _&&_, true≢false}
+use mathlib.Core.Bool.{Bool, true, false, cond, _&&_, true≢false}
 use mathlib.Core.List.{List, [], _∷_}
-use native.Mathlib.Omega.{arith}
-use lib.Dec.{eqb, leb, ltb}
+use lib.Dec.{eqb, ltb}
 use lib.ListN.{length, set, length-set}
 use borrow.Author.Tests.{leb-false, ltb-false, not-false}
-use Rattle.laws.specs.Lists.{every}
 use Rattle.laws.proofs.Tests.{neither}
 use Rattle.laws.proofs.Every.{_and_, Every}
 use Rattle.load_file.specs.Cells.{soundWord}
 use Rattle.load_file.specs.Offset.{ahead}
 use Rattle.program.specs.Program.{instructions, lowestFault, cells}
-use Rattle.program.specs.Metadata.{validByte, validName, called}
-use Rattle.program.proofs.Program.{cells-sound}
+use Rattle.program.specs.Metadata.{validName, called}
 use Rattle.program.proofs.Metadata.{called-valid}
 use Rattle.machine.specs.declared.Header.{Header}
 use Rattle.machine.specs.State.{Machine, Outcome, Verdict, accepted, refusal, first, settle}
 use Rattle.machine.specs.Names.{slot, isNew, register, registered, numbered}
 use Rattle.machine.specs.Queue.{slots, entries, push, started}
-use Rattle.machine.specs.Load.{blank, freshChecks, freshMachine, fresh, placed, originOf, loaded, loadChecks, load}
+use Rattle.machine.specs.Load.{blank, freshChecks, freshMachine, fresh, placed, loaded, loadChecks, load}
 use Rattle.machine.proofs.Checks.{passes, number-of, Refused, refused}
 use Rattle.machine.proofs.Names.{Held}
-use Rattle.machine.proofs.Soundness.{SoundHeader, size-positive, size-small, holding, registered-sound, registered-held, started-sound}
+use Rattle.machine.proofs.Soundness.{SoundHeader, holding, registered-sound, registered-held, started-sound}
 use Rattle.machine.proofs.Pointers.{SoundCore, word-set}
 
 -- fresh

@@ -1,6 +1,6 @@
 -- Laws of an operand: it keeps the core's length, writes once at most, and of a sound core it leaves a sound one and reads sound cells.
 -- Assumes nothing.
-use Prim.Native.Nat.{ℕ, _+_, _%_, _≤_, _<_}
+use Prim.Native.Nat.{ℕ, _≤_, _<_}
 use mathlib.Core.Path.{_≡_, refl, _∙_}
 use mathlib.Core.Bool.{true}
 use mathlib.Core.List.{List}
@@ -14,7 +14,7 @@ use Rattle.load_file.specs.Offset.{ahead}
 use Rattle.load_file.specs.Cells.{packed, unpacked, soundWord, number, withNumber}
 use Rattle.load_file.proofs.Offsets.{ahead-lt}
 use Rattle.load_file.proofs.Soundness.{Sound, sound-fields, fields-sound}
-use Rattle.machine.specs.Pointers.{Reach, here, there, through, reaches, Turn, keeps, lowers, raises, turns, fieldOf, less, more, used, pointerOf, changed, before, after, turnWrites, Operand, operand}
+use Rattle.machine.specs.Pointers.{Reach, here, there, through, reaches, Turn, keeps, lowers, raises, turns, fieldOf, used, pointerOf, changed, before, after, turnWrites, Operand, operand}
 
 -- the core's length
 length-before : (t : Turn) (size : ℕ) (core : List ℕ) (l : ℕ) (f : Field) (x : ℕ) → length (before t size core l f x) ≡ length core

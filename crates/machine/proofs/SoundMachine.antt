@@ -1,17 +1,17 @@
 -- The machine that is sound all through: its header, every cell and every entry, and counts that are the numbers of entries.
 -- Fresh makes one; load, step and run keep it, and answer it no 9. How a load and a step change the entries of each name.
 -- Assumes nothing.
-use Prim.Native.Nat.{ℕ, _+_, _*_, _/_, _^_, _≤_, _<_}
+use Prim.Native.Nat.{ℕ, _/_, _^_, _≤_, _<_}
 use mathlib.Core.Path.{_≡_, refl, sym, ap, ap₂, subst, _∙_}
-use mathlib.Core.Bool.{Bool, true, false, cond, not, _&&_, true≢false}
-use mathlib.Core.List.{List, [], _∷_}
+use mathlib.Core.Bool.{Bool, true, not, _&&_, true≢false}
+use mathlib.Core.List.{List}
 use mathlib.Core.Logic.{inl, inr}
 use native.Mathlib.Omega.{arith}
 use lib.Dec.{T, eqb, leb}
 use lib.IntN.{ℤ}
 use lib.ListN.{length, getD, length-replicate}
-use borrow.Author.Tests.{leb-true, leb-false, eqb-true, eqb-false, eq-eqb, lt-ltb, not-false}
-use Rattle.laws.specs.Lists.{oneIf, same}
+use borrow.Author.Tests.{leb-true, leb-false, eqb-true, eq-eqb, lt-ltb, not-false}
+use Rattle.laws.specs.Lists.{same}
 use Rattle.laws.proofs.Tests.{both, neither}
 use Rattle.laws.proofs.Every.{_and_, Every, every-replicate}
 use Rattle.laws.proofs.Same.{same-refl}
@@ -21,27 +21,26 @@ use Rattle.load_file.proofs.Offsets.{euclid-lt, ahead-lt}
 use Rattle.program.specs.Program.{cells}
 use Rattle.program.specs.Metadata.{called}
 use Rattle.program.proofs.Program.{cells-sound}
-use Rattle.program.proofs.Metadata.{called-valid}
 use Rattle.machine.specs.declared.Ceiling.{Ceiling}
 use Rattle.machine.specs.declared.Entry.{Entry}
-use Rattle.machine.specs.State.{Machine, Outcome, Verdict, accepted, refusal, first}
-use Rattle.machine.specs.Names.{slot, numbered, register, registered, countOf}
-use Rattle.machine.specs.Queue.{entry, packedEntry, unpackedEntry, entries, nameOf, entriesOf, front, full, pop, push, started}
+use Rattle.machine.specs.State.{Machine}
+use Rattle.machine.specs.Names.{slot, numbered}
+use Rattle.machine.specs.Queue.{entry, packedEntry, unpackedEntry, entries, nameOf, entriesOf, front, pop, push, started}
 use Rattle.machine.specs.Soundness.{validQueue}
-use Rattle.machine.specs.Load.{originOf, freshChecks, freshMachine, fresh, placed, loaded, loadChecks, load}
+use Rattle.machine.specs.Load.{originOf, freshChecks, fresh, loaded, loadChecks, load}
 use Rattle.machine.specs.Execution.{Next}
-use Rattle.machine.specs.Step.{pc, popped, effect, coreAfter, counted, Queued, queued, executed, stepChecks, step, executes}
+use Rattle.machine.specs.Step.{pc, popped, effect, counted, queued, executed, stepChecks, step, executes}
 use Rattle.machine.specs.Run.{run, read}
 use Rattle.machine.proofs.Checks.{passes, Without, without}
 use Rattle.machine.proofs.Entries.{packed-place, packed-top}
 use Rattle.machine.proofs.Queue.{tally-pop, every-pop, every-push}
-use Rattle.machine.proofs.Names.{Held, held-at, count-at}
+use Rattle.machine.proofs.Names.{held-at, count-at}
 use Rattle.machine.proofs.Soundness.{SoundHeader, header-sound, size-positive, size-small, counts-long, push-sound, numbered-sound, holding, entry-sound}
-use Rattle.machine.proofs.Agreement.{Agree, pop-entries, pop-agree, pop-held, push-entries, push-agree, push-held, counted-agree, counted-entries, counted-held, started-entries, started-agree, Registered, is-registered}
+use Rattle.machine.proofs.Agreement.{Agree}
 use Rattle.machine.proofs.Pointers.{SoundCore, cell-at}
 use Rattle.machine.proofs.Execution.{Places}
 use Rattle.machine.proofs.Load.{fresh-accepted, placed-sound, Loadable, loadable, is-loaded, placing, placing-room, placing-size, placing-entries, placing-sound, load-by-cases, loaded-sound}
-use Rattle.machine.proofs.Step.{operand-a-sound, operand-b-sound, next-places, core-after-sound, queued-by-cases, any-places, is-executed, step-by-cases, Ready, nonzero, step-some, front-held, counting, counting-sound, counting-room, executed-sound, step-sound}
+use Rattle.machine.proofs.Step.{operand-a-sound, operand-b-sound, next-places, core-after-sound, queued-by-cases, is-executed, step-by-cases, Ready, nonzero, step-some, counting, counting-sound, counting-room, executed-sound}
 use Rattle.machine.proofs.ByName.{stepped, begun}
 use Rattle.machine.proofs.Run.{run-keeps, run-answers}
 

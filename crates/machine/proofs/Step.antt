@@ -1,15 +1,15 @@
 -- Laws of a step, for every machine: a refusal leaves it as it was; steps rise by one exactly when an instruction is executed;
 -- the lengths of core and queue stay; at most three writes and two pushes. Of a sound record the header stays sound.
 -- Assumes nothing.
-use Prim.Native.Nat.{ℕ, suc, _+_, _-_, _≤_, _<_}
+use Prim.Native.Nat.{ℕ, _+_, _≤_, _<_}
 use mathlib.Core.Path.{_≡_, refl, sym, ap, _∙_}
-use mathlib.Core.Bool.{Bool, true, false, cond, not, true≢false}
+use mathlib.Core.Bool.{Bool, true, false, cond, true≢false}
 use mathlib.Core.List.{List}
 use mathlib.Core.Option.{Option, none, some}
 use native.Mathlib.Nat.{add-zero}
 use native.Mathlib.Omega.{arith}
 use lib.Dec.{eqb}
-use lib.ListN.{length, getD, length-set}
+use lib.ListN.{length, length-set}
 use borrow.Author.Tests.{leb-false, eqb-false, not-false}
 use Rattle.laws.specs.Lists.{oneIf}
 use Rattle.laws.proofs.Every.{_and_}
@@ -19,12 +19,11 @@ use Rattle.machine.specs.declared.Entry.{Entry}
 use Rattle.machine.specs.State.{Machine, Outcome, Verdict, accepted, refusal, first, settle}
 use Rattle.machine.specs.Names.{numbered}
 use Rattle.machine.specs.Queue.{entry, front, full, nameOf, pop, push, started}
-use Rattle.machine.specs.Soundness.{soundHeader}
 use Rattle.machine.specs.Execution.{Ending, dat, divisor, Next, ends, goes, splits}
 use Rattle.machine.specs.Step.{popped, pc, instruction, operandA, operandB, scene, effect, storeTo, storeWrites, coreAfter, stepWrites, counted, Queued, queued, endTold, nextTold, executed, stepChecks, step, executes}
-use Rattle.machine.proofs.Checks.{Passes, passes, number-of, Refused, refused}
+use Rattle.machine.proofs.Checks.{passes, number-of, Refused, refused}
 use Rattle.machine.proofs.Names.{Shape, Held, held-at}
-use Rattle.machine.proofs.Soundness.{SoundHeader, sound-header, header-sound, pop-sound, push-sound, counted-sound, started-sound, SoundEntry, sound-entry}
+use Rattle.machine.proofs.Soundness.{SoundHeader, sound-header, pop-sound, push-sound, counted-sound, started-sound, SoundEntry, sound-entry}
 use Rattle.machine.proofs.Pointers.{length-operand, operand-writes, SoundCore, cell-set, fields-at, SoundOperand, operand-sound}
 use Rattle.machine.proofs.Execution.{Places, SoundStore, SoundEffect, effect-sound}
 
