@@ -133,13 +133,13 @@ step-kept : (m : Machine) (w : ℕ) (log : List Event) → Invariant m w log →
 step-kept m w log i =
     step-by-cases
     (λ o. SoundMachine (o .machine)
-        → Invariant (o .machine) (w + o .writes) (cond (executes (o .number)) (Calls.executed (nameOf m (front m)) (o .pushes) (o .writes) ∷ log) log))
+    → Invariant (o .machine) (w + o .writes) (cond (executes (o .number)) (Calls.executed (nameOf m (front m)) (o .pushes) (o .writes) ∷ log) log))
     m (λ n v e x s. rw x (after-refusal i))
     (λ e s.
-        let d = is-executed m in
-        rw (d .executes)
-        (after-step m (executed m) w log i s d (stepped m (sound-ready m (i .sound) (step-some m e)) (i .sound .agree))
-        (rw (d .writes) (step-writes-three m)) (rw (d .writes) (step-cells m))))
+    let d = is-executed m in
+    rw (d .executes)
+    (after-step m (executed m) w log i s d (stepped m (sound-ready m (i .sound) (step-some m e)) (i .sound .agree))
+    (rw (d .writes) (step-writes-three m)) (rw (d .writes) (step-cells m))))
     (step-keeps m (i .sound))
 
 steps-kept : (k : ℕ) (m : Machine) (w : ℕ) (log : List Event) → Invariant m w log
@@ -175,13 +175,13 @@ load-kept : (name body : List ℕ) (origin place : ℕ) (m : Machine) (w : ℕ) 
 load-kept name body origin place m w log i =
     load-by-cases m name body origin place
     (λ o. SoundMachine (o .machine)
-        → Invariant (o .machine) (w + o .writes) (cond (eqb (o .number) 0) (Calls.loaded (called name) (instructions body) (o .writes) ∷ log) log))
+    → Invariant (o .machine) (w + o .writes) (cond (eqb (o .number) 0) (Calls.loaded (called name) (instructions body) (o .writes) ∷ log) log))
     (λ n v e x s. rw x (after-refusal i))
     (λ e s.
-        let l = is-loaded m name body origin place in
-        rw (l .number)
-        (after-load m (called name) body place (loaded m (called name) body origin place) w log i s l
-        (begun m name body origin place (i .sound .header) (i .sound .agree) (loadable m name body place e))))
+    let l = is-loaded m name body origin place in
+    rw (l .number)
+    (after-load m (called name) body place (loaded m (called name) body origin place) w log i s l
+    (begun m name body origin place (i .sound .header) (i .sound .agree) (loadable m name body place e))))
     (load-keeps m name body origin place (i .sound))
 
 -- any list of calls

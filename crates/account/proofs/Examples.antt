@@ -41,7 +41,7 @@ unnamedPair = Load [] (datum 0 0) 65535 0 ∷ Load [] (bytes JMP unnamed Direct 
 pub unnamed-pair : (countOf (left unnamedPair start .header) Warrior0 ≡ 1)
     × (entriesOf (left unnamedPair start) Warrior0 ≡ 1)
     × (logged unnamedPair start []
-        ≡ Calls.executed Warrior0 1 0 ∷ Calls.executed Warrior0 0 0 ∷ Calls.loaded Warrior0 1 1 ∷ Calls.loaded Warrior0 1 1 ∷ [])
+    ≡ Calls.executed Warrior0 1 0 ∷ Calls.executed Warrior0 0 0 ∷ Calls.loaded Warrior0 1 1 ∷ Calls.loaded Warrior0 1 1 ∷ [])
     × (tally (endingOf Warrior0) (logged unnamedPair start []) ≡ 1)
 unfolding soundWord lawful lowestFault cells register numbered entries pop push started soundHeader soundEntry fresh loaded load operand effectOf effect coreAfter stepWrites counted executed step
 unnamed-pair = (refl, refl, refl, refl)

@@ -39,16 +39,16 @@ grown x e m t s r a room =
     (record { agree = a; entries = λ n. omega arith })
     (λ p q. record { agree = push-agree m (next p) t s r a room; entries = λ n. let h = push-entries m (next p) t s r a room n in omega arith })
     (λ p c q k f.
-        let b = push-sound m s (next p) (r .below) room in
-        let g = push-held m (next p) t s r a room in
-        let j = push-agree m (next p) t s r a room in
-        record {
-          agree = started-agree c (e .name) (push (next p) m) t b g j (leb-false _ _ f);
-          entries = λ n.
-              let h = push-entries m (next p) t s r a room n in
-              let i = started-entries c (e .name) (push (next p) m) t b g j (leb-false _ _ f) n in
-              omega arith;
-        })
+    let b = push-sound m s (next p) (r .below) room in
+    let g = push-held m (next p) t s r a room in
+    let j = push-agree m (next p) t s r a room in
+    record {
+      agree = started-agree c (e .name) (push (next p) m) t b g j (leb-false _ _ f);
+      entries = λ n.
+          let h = push-entries m (next p) t s r a room n in
+          let i = started-entries c (e .name) (push (next p) m) t b g j (leb-false _ _ f) n in
+          omega arith;
+    })
     x (any-places x)
   where
     next : ℕ → Entry

@@ -33,7 +33,7 @@ module _ (size : ℕ) (core queue : List ℕ) where
   pub fresh-by-cases : (P : Outcome → Type 0)
       → ((n v : ℕ) → eqb n 0 ≡ false → P (record { machine = lent; number = n; value = v; writes = 0; steps = 0; pushes = 0 }))
       → (first (freshChecks size core queue) ≡ accepted
-          → P (record { machine = freshMachine size core queue; number = 0; value = 0; writes = 0; steps = 0; pushes = 0 }))
+      → P (record { machine = freshMachine size core queue; number = 0; value = 0; writes = 0; steps = 0; pushes = 0 }))
       → P (fresh size core queue)
   unfolding fresh
   fresh-by-cases P r a = go (first (freshChecks size core queue)) refl

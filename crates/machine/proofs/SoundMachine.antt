@@ -76,7 +76,7 @@ unfolding push
 queued-inside x e m s held room places h =
     queued-by-cases (λ q. Every (Inside (m .header .size)) (entries (q .machine))) (λ p. p < m .header .size) e m h one
     (λ p c q r f.
-        started-inside c (e .name) (push (entry p (e .thread) (e .name)) m) (push-sound m s (entry p (e .thread) (e .name)) held room) (leb-false _ _ f) r (one p q))
+    started-inside c (e .name) (push (entry p (e .thread) (e .name)) m) (push-sound m s (entry p (e .thread) (e .name)) held room) (leb-false _ _ f) r (one p q))
     x places
   where
     one : (p : ℕ) → p < m .header .size → Every (Inside (m .header .size)) (entries (push (entry p (e .thread) (e .name)) m))
@@ -205,14 +205,14 @@ module _ (m : Machine) (s : SoundMachine m) where
       inl (ap not (header-sound m (s .header)))
       and λ a. inr (other tt)
       and λ b.
-          let r = sound-ready m s (nonzero b) in
-          inl (ap not (entry-sound (m .header) (front m) (r .entry)))
-          and λ c. inr (other tt)
-          and λ d. inl (ap not (cell-at (m .header .size) (m .core) (s .core) (pc m) (r .entry .place)))
-          and λ e. inr (other tt)
-          and λ f. inl
-          (ap₂ (λ (x y : Bool). not (x && y)) (operand-a-sound m (s .core) (r .entry .place) .sound) (operand-b-sound m (s .core) (r .entry .place) .sound))
-          and λ g. tt
+      let r = sound-ready m s (nonzero b) in
+      inl (ap not (entry-sound (m .header) (front m) (r .entry)))
+      and λ c. inr (other tt)
+      and λ d. inl (ap not (cell-at (m .header .size) (m .core) (s .core) (pc m) (r .entry .place)))
+      and λ e. inr (other tt)
+      and λ f. inl
+      (ap₂ (λ (x y : Bool). not (x && y)) (operand-a-sound m (s .core) (r .entry .place) .sound) (operand-b-sound m (s .core) (r .entry .place) .sound))
+      and λ g. tt
 
   pub step-not-nine : step m .number ≡ 9 → ⊥
   step-not-nine =

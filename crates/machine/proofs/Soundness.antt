@@ -91,71 +91,65 @@ module _ (m : Machine) (s : SoundHeader m) where
       ∙ total-set (take (m .header .held) (m .header .counts)) i v (rw (length-take-le (m .header .held) (m .header .counts) counts-long) h)
       ∙ ap (λ (k : ℕ). k + v) (s .sum)
 
+  -- the same names beside other memories and numbers
+  same-names : (core queue : List ℕ) (head entries steps : ℕ) (counts threads : List ℕ)
+      → length core ≡ m .header .size
+      → length queue ≡ length (m .queue)
+      → head < length (m .queue)
+      → entries ≤ length (m .queue)
+      → length counts ≡ 16
+      → total (take (m .header .held) counts) ≡ entries
+      → length threads ≡ 16
+      → SoundHeader (record {
+        core = core;
+        queue = queue;
+        header = record {
+          size = m .header .size;
+          head = head;
+          length = entries;
+          steps = steps;
+          held = m .header .held;
+          names = m .header .names;
+          lengths = m .header .lengths;
+          counts = counts;
+          threads = threads;
+        };
+      })
+  same-names core queue head entries steps counts threads c q h l k t u =
+      record {
+        shape = record { names = s .shape .names; lengths = s .shape .lengths; counts = k; threads = u };
+        size = s .size;
+        core = c;
+        queue = rw q (s .queue);
+        limit = rw q l;
+        head = rw q h;
+        few = s .few;
+        lengths = s .lengths;
+        bytes = s .bytes;
+        unlike = s .unlike;
+        sum = t;
+      }
+
   pub pop-sound : 0 < m .header .length → unpackedEntry (front m) .name < m .header .held
       → 1 ≤ getD (m .header .counts) (unpackedEntry (front m) .name) 0 → SoundHeader (pop m)
   unfolding pop
   pop-sound some held one =
-      record {
-        shape = record {
-          names = s .shape .names;
-          lengths = s .shape .lengths;
-          counts = length-set (m .header .counts) _ _ ∙ s .shape .counts;
-          threads = s .shape .threads;
-        };
-        size = s .size;
-        core = s .core;
-        queue = s .queue;
-        limit = let a = s .limit in omega arith;
-        head = mod-lt (m .header .head + 1) (omega (arith, s .head));
-        few = s .few;
-        lengths = s .lengths;
-        bytes = s .bytes;
-        unlike = s .unlike;
-        sum =
-            let i = unpackedEntry (front m) .name in
-            let a = total-counts i (getD (m .header .counts) i 0 - 1) held in
-            omega arith;
-      }
+      let i = unpackedEntry (front m) .name in
+      let t = total-counts i (getD (m .header .counts) i 0 - 1) held in
+      same-names (m .core) (m .queue) _ _ _ _ _ (s .core) refl (mod-lt (m .header .head + 1) (omega (arith, s .head)))
+      (let l = s .limit in omega arith) (length-set (m .header .counts) _ _ ∙ s .shape .counts) (omega arith) (s .shape .threads)
 
   pub push-sound : (e : Entry) → e .name < m .header .held → m .header .length < length (m .queue) → SoundHeader (push e m)
   unfolding push
   push-sound e held room =
-      record {
-        shape = record {
-          names = s .shape .names;
-          lengths = s .shape .lengths;
-          counts = length-set (m .header .counts) _ _ ∙ s .shape .counts;
-          threads = s .shape .threads;
-        };
-        size = s .size;
-        core = s .core;
-        queue = rw (length-set (m .queue) _ _) (s .queue);
-        limit = rw (length-set (m .queue) _ _) (omega arith);
-        head = rw (length-set (m .queue) _ _) (s .head);
-        few = s .few;
-        lengths = s .lengths;
-        bytes = s .bytes;
-        unlike = s .unlike;
-        sum = let a = total-counts (e .name) (getD (m .header .counts) (e .name) 0 + 1) held in omega arith;
-      }
+      let t = total-counts (e .name) (getD (m .header .counts) (e .name) 0 + 1) held in
+      same-names (m .core) _ _ _ _ _ _ (s .core) (length-set (m .queue) _ _) (s .head) (omega arith)
+      (length-set (m .header .counts) _ _ ∙ s .shape .counts) (omega arith) (s .shape .threads)
 
   -- count one step, with another core
   pub counted-sound : (core : List ℕ) → length core ≡ m .header .size → SoundHeader (counted core m)
   unfolding counted
-  counted-sound core c =
-      record {
-        shape = record { names = s .shape .names; lengths = s .shape .lengths; counts = s .shape .counts; threads = s .shape .threads };
-        size = s .size;
-        core = c;
-        queue = s .queue;
-        limit = s .limit;
-        head = s .head;
-        few = s .few;
-        lengths = s .lengths;
-        bytes = s .bytes;
-        unlike = s .unlike;
-        sum = s .sum;
-      }
+  counted-sound core c = same-names core (m .queue) _ _ _ _ _ c refl (s .head) (s .limit) (s .shape .counts) (s .sum) (s .shape .threads)
 
 -- the same queue memory beside another core and header
 abbrev pub holding : List ℕ → Header → Machine → Machine
@@ -166,24 +160,8 @@ module _ (m : Machine) (s : SoundHeader m) (core : List ℕ) (c : length core �
   pub numbered-sound : (i : ℕ) → SoundHeader (holding core (numbered i (m .header)) m)
   unfolding numbered
   numbered-sound i =
-      record {
-        shape = record {
-          names = s .shape .names;
-          lengths = s .shape .lengths;
-          counts = s .shape .counts;
-          threads = length-set (m .header .threads) _ _ ∙ s .shape .threads;
-        };
-        size = s .size;
-        core = c;
-        queue = s .queue;
-        limit = s .limit;
-        head = s .head;
-        few = s .few;
-        lengths = s .lengths;
-        bytes = s .bytes;
-        unlike = s .unlike;
-        sum = s .sum;
-      }
+      same-names m s core (m .queue) _ _ _ _ _ c refl (s .head) (s .limit) (s .shape .counts) (s .sum)
+      (length-set (m .header .threads) _ _ ∙ s .shape .threads)
 
   module _ (n : List ℕ) (fits : length n ≤ 32) (some : 1 ≤ length n) (valid : every validByte n ≡ true) where
     register-sound : slot (m .header) n ≡ m .header .held → m .header .held < 16 → SoundHeader (holding core (register (m .header) n) m)
@@ -214,20 +192,7 @@ module _ (m : Machine) (s : SoundHeader m) (core : List ℕ) (c : length core �
         go : (b : Bool) → isNew (m .header) n ≡ b → (b && eqb (m .header .held) 16) ≡ false
             → SoundHeader (holding core (cond b (register (m .header) n) (m .header)) m)
         go true e free = let k : m .header .held ≡ 16 → ⊥ = eqb-false _ _ free in register-sound (eqb-true _ _ e) (omega (arith, s .few))
-        go false e free =
-            record {
-              shape = s .shape;
-              size = s .size;
-              core = c;
-              queue = s .queue;
-              limit = s .limit;
-              head = s .head;
-              few = s .few;
-              lengths = s .lengths;
-              bytes = s .bytes;
-              unlike = s .unlike;
-              sum = s .sum;
-            }
+        go false e free = same-names m s core (m .queue) _ _ _ _ _ c refl (s .head) (s .limit) (s .shape .counts) (s .sum) (s .shape .threads)
 
 -- a registered name is held at its slot
 pub registered-held : (m : Machine) (n : List ℕ) → SoundHeader m → (isNew (m .header) n && eqb (m .header .held) 16) ≡ false → length n ≤ 32

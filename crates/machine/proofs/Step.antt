@@ -253,7 +253,7 @@ queued-sound x e m s held room =
     queued-by-cases (λ q. SoundHeader (q .machine)) (λ p. Unit {0}) e m s
     (λ p q. push-sound m s (entry p (e .thread) (e .name)) held room)
     (λ p c q r f.
-        started-sound c (e .name) (push (entry p (e .thread) (e .name)) m) (push-sound m s (entry p (e .thread) (e .name)) held room) held (leb-false _ _ f))
+    started-sound c (e .name) (push (entry p (e .thread) (e .name)) m) (push-sound m s (entry p (e .thread) (e .name)) held room) held (leb-false _ _ f))
     x (any-places x)
 
 pub executed-sound : (m : Machine) → Ready m → SoundHeader (executed m .machine)
