@@ -1,19 +1,22 @@
 -- Demand 3: the account of every list of calls, by one invariant that each call keeps.
 -- Assumes nothing.
 use Prim.Native.Nat.{ℕ, zero, suc, _+_, _-_, _*_, _≤_}
-use mathlib.Core.Path.{_≡_, refl, ap, _∙_}
+use mathlib.Core.Path.{_≡_, refl, sym, ap, _∙_}
 use mathlib.Core.Bool.{Bool, true, false, cond, not, _&&_}
 use mathlib.Core.List.{List, [], _∷_}
 use native.Mathlib.Nat.{zero-add, add-zero, add-assoc}
 use native.Mathlib.Omega.{arith}
 use lib.Dec.{eqb}
 use lib.ListN.{length}
+use borrow.Author.Tests.{ne-eqb}
 use Rattle.laws.specs.Lists.{oneIf, tally, same}
+use Rattle.laws.proofs.Tests.{and-true}
 use Rattle.program.specs.Program.{instructions, cells}
 use Rattle.program.specs.Metadata.{called}
 use Rattle.program.proofs.Program.{length-cells}
 use Rattle.machine.specs.declared.Ceiling.{Ceiling}
 use Rattle.machine.specs.State.{Machine, Outcome, accepted, refusal, settle}
+use Rattle.machine.specs.Names.{isNew}
 use Rattle.machine.specs.Queue.{entries, nameOf, entriesOf, front}
 use Rattle.machine.specs.Soundness.{soundHeader}
 use Rattle.machine.specs.Load.{freshMachine, fresh, loaded, load}
@@ -69,6 +72,12 @@ module _ (m m′ : Machine) (t : List ℕ) (w x : ℕ) (log : List Event) (i : I
   others n (suc (suc zero)) h a e z = let o = i .account .others n z in omega arith
   others n (suc (suc (suc p))) h a e z = absurd (let f : ⊥ = omega arith in f)
 
+-- a name is new where no load is its, before and after a load of t, if b says that it is t
+still-new : (a b : Bool) (k : ℕ) → a ≡ eqb k 0 → (a && not b) ≡ eqb (oneIf b + k) 0
+still-new a false k e = and-true a ∙ e ∙ ap (λ (j : ℕ). eqb j 0) (sym (zero-add k))
+still-new true true k e = sym (ne-eqb (1 + k) 0 (λ (z : 1 + k ≡ 0). let f : ⊥ = omega arith in f))
+still-new false true k e = sym (ne-eqb (1 + k) 0 (λ (z : 1 + k ≡ 0). let f : ⊥ = omega arith in f))
+
 after-step : (m : Machine) (o : Outcome) (w : ℕ) (log : List Event) → Invariant m w log → SoundMachine (o .machine)
     → Executed m o → Stepped m o → o .writes ≤ 3 → differing (coreAfter m) ≤ differing (m .core) + o .writes
     → Invariant (o .machine) (w + o .writes) (Calls.executed (nameOf m (front m)) (o .pushes) (o .writes) ∷ log)
@@ -82,6 +91,7 @@ after-step m o w log i sound e s three core =
         writes = let a = i .account .writes in omega arith;
         bound = let a = i .account .bound in let b = e .steps in omega arith;
         cells = let a = i .account .cells in let b : differing (o .machine .core) ≡ differing (coreAfter m) = ap differing (e .core) in omega arith;
+        names = λ n. e .names n ∙ i .account .names n ∙ ap (λ (k : ℕ). eqb k 0) (sym (zero-add (tally (loadOf n) log)));
         idle = λ n. idle m (o .machine) t w (o .writes) log i n (o .pushes) (e .pushes) (s .had n) (s .entries n);
         others = λ n z. others m (o .machine) t w (o .writes) log i n (o .pushes) (e .pushes) (s .had n) (s .entries n) (omega arith);
       };
@@ -110,6 +120,7 @@ after-load m t body place o w log i sound l b =
         writes = let a = i .account .writes in omega arith;
         bound = let a = i .account .bound in let c = l .steps in let d = l .writes in omega arith;
         cells = let a = i .account .cells in let c = placed-more in omega arith;
+        names = λ n. b .names n ∙ still-new (isNew (m .header) n) (same t n) (tally (loadOf n) log) (i .account .names n);
         idle = λ n z. let a = b .entries n in let c = i .account .idle n (omega arith) in omega arith;
         others = λ n z. let a = b .entries n in let c = i .account .others n (omega arith) in omega arith;
       };
@@ -208,6 +219,7 @@ fresh-account size core queue =
       writes = refl;
       bound = omega arith;
       cells = rw (fresh-cells (length core)) (omega arith);
+      names = λ n. refl;
       idle = λ n z. refl;
       others = λ n z. refl;
     }

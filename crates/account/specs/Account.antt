@@ -8,7 +8,7 @@ use lib.Dec.{eqb}
 use Rattle.laws.specs.Lists.{oneIf, tally, total, same}
 use Rattle.load_file.specs.Cells.{freshCell}
 use Rattle.machine.specs.State.{Machine}
-use Rattle.machine.specs.Names.{countOf}
+use Rattle.machine.specs.Names.{isNew, countOf}
 use Rattle.machine.specs.Queue.{entriesOf}
 use Rattle.account.specs.Calls.{Event, loaded, executed}
 
@@ -70,5 +70,7 @@ pub record Account (m : Machine) (w : ℕ) (log : List Event) : Type 0 where
   pub cells : differing (m .core) ≤ w
   -- A name without entries has executed nothing since its last ending, or ever if it has none
   pub idle : (n : List ℕ) → entriesOf m n ≡ 0 → sinceEnding n log ≡ 0
-  -- Names are those of accepted calls; no other has entries (01)
+  -- Names are those of accepted calls (01): a name is held exactly where one is its load
+  pub names : (n : List ℕ) → isNew (m .header) n ≡ eqb (tally (loadOf n) log) 0
+  -- no other has entries (01)
   pub others : (n : List ℕ) → tally (loadOf n) log ≡ 0 → entriesOf m n ≡ 0

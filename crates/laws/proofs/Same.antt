@@ -23,6 +23,14 @@ pub same-refl : (a : List ℕ) → same a a ≡ true
 same-refl [] = refl
 same-refl (x ∷ xs) = rw (eq-eqb x x refl, same-refl xs)
 
+pub same-sym : (a b : List ℕ) → same a b ≡ same b a
+same-sym a b = go (same a b) (same b a) refl refl
+  where
+    go : (x y : Bool) → same a b ≡ x → same b a ≡ y → same a b ≡ same b a
+    go true y e f = e ∙ sym (ap (same b) (same-true a b e) ∙ same-refl b)
+    go false false e f = e ∙ sym f
+    go false true e f = ap (same a) (same-true b a f) ∙ same-refl a ∙ sym f
+
 -- names unlike each other: each is found where it stands
 pub lowest-own : (ns : List (List ℕ)) (i : ℕ) → distinct ns ≡ true → i < length ns → lowest (same (getD ns i [])) ns ≡ i
 lowest-own [] i d h = absurd (not-suc-le-zero h)
@@ -46,16 +54,9 @@ pub distinct-snoc : (ns : List (List ℕ)) (n : List ℕ) → distinct ns ≡ tr
 distinct-snoc [] n d e = refl
 distinct-snoc (x ∷ xs) n d e = go (same n x) refl e (distinct-snoc xs n (both (eqb (tally (same x) xs) 0) (distinct xs) d .1))
   where
-    unlike : same n x ≡ false → same x n ≡ false
-    unlike f = flip (same x n) refl
-      where
-        flip : (b : Bool) → same x n ≡ b → same x n ≡ false
-        flip false g = g
-        flip true g = absurd (true≢false (sym (ap (same n) (same-true x n g) ∙ same-refl n) ∙ f))
-
     go : (b : Bool) → same n x ≡ b → cond b 0 (suc (lowest (same n) xs)) ≡ suc (length xs)
         → (lowest (same n) xs ≡ length xs → distinct (xs ++ (n ∷ [])) ≡ true)
         → (eqb (tally (same x) (xs ++ (n ∷ []))) 0 && distinct (xs ++ (n ∷ []))) ≡ true
     go true f e r = absurd (let g : ⊥ = omega arith in g)
     go false f e r =
-        rw (r (omega arith), tally-append (same x) xs (n ∷ []), unlike f, eqb-true (tally (same x) xs) 0 (both (eqb (tally (same x) xs) 0) (distinct xs) d .0))
+        rw (r (omega arith), tally-append (same x) xs (n ∷ []), same-sym x n, f, eqb-true (tally (same x) xs) 0 (both (eqb (tally (same x) xs) 0) (distinct xs) d .0))

@@ -2,7 +2,7 @@
 -- Assumes nothing.
 use Prim.Native.Nat.{ℕ, _+_, _*_, _≤_, _<_}
 use mathlib.Core.Path.{_≡_, refl, sym, ap, subst, _∙_}
-use mathlib.Core.Bool.{Bool, true, false, cond, not, true≢false}
+use mathlib.Core.Bool.{Bool, true, false, cond, not, _&&_, true≢false}
 use mathlib.Core.List.{List}
 use native.Mathlib.Omega.{arith}
 use lib.Dec.{eqb}
@@ -16,13 +16,13 @@ use Rattle.program.specs.Metadata.{called}
 use Rattle.program.proofs.Metadata.{called-valid}
 use Rattle.machine.specs.declared.Entry.{Entry}
 use Rattle.machine.specs.State.{Machine, Outcome}
-use Rattle.machine.specs.Names.{slot}
+use Rattle.machine.specs.Names.{slot, isNew, numbered}
 use Rattle.machine.specs.Queue.{entry, nameOf, entriesOf, front, full, pop, push, started}
 use Rattle.machine.specs.Load.{originOf, loaded}
 use Rattle.machine.specs.Execution.{Ending, dat, divisor, Next, ends, goes, splits}
 use Rattle.machine.specs.Step.{popped, pc, effect, coreAfter, Queued, queued, endTold, nextTold, executed, step, executes}
 use Rattle.machine.proofs.Names.{Shape, Held, count-at}
-use Rattle.machine.proofs.Soundness.{SoundHeader, counts-long, push-sound}
+use Rattle.machine.proofs.Soundness.{SoundHeader, counts-long, push-sound, registered-new}
 use Rattle.machine.proofs.Agreement.{Agree, pop-entries, pop-agree, pop-held, push-entries, push-agree, push-held, counted-agree, counted-entries, counted-held, started-entries, started-agree, is-registered}
 use Rattle.machine.proofs.Load.{Loadable, placing, placing-room, placing-sound, placing-held}
 use Rattle.machine.proofs.Step.{queued-by-cases, any-places, step-by-cases, Ready, ready, front-held, counting, counting-sound, counting-room}
@@ -81,10 +81,15 @@ stepped m r a =
           omega arith;
     }
 
--- a load that passed its checks: one entry of its name more
+-- a load that passed its checks: one entry of its name more, and no other name held than before
 pub record Begun (m : Machine) (t : List ℕ) (m′ : Machine) : Type 0 where
   pub agree : Agree m′
+  pub names : (n : List ℕ) → isNew (m′ .header) n ≡ (isNew (m .header) n && not (same t n))
   pub entries : (n : List ℕ) → entriesOf m′ n ≡ entriesOf m n + oneIf (same t n)
+
+started-names : (place i : ℕ) (m : Machine) (n : List ℕ) → isNew (started place i m .header) n ≡ isNew (m .header) n
+unfolding started push numbered
+started-names place i m n = refl
 
 pub begun : (m : Machine) (given body : List ℕ) (origin place : ℕ) → SoundHeader m → Agree m → Loadable m given body place
     → Begun m (called given) (loaded m (called given) body origin place .machine)
@@ -94,14 +99,18 @@ begun m given body origin place s a l =
     let i = slot (m .header) t in
     let p = ahead (m .header .size) place (originOf origin) in
     let n = placing m given body place in
-    let g = is-registered m t s a (n .core) (l .free) (called-valid given (l .valid) .0) in
+    let g = is-registered m t s a (n .core) (l .free) fits in
     let b = placing-sound m given body place s l in
     let h = placing-held m given body place s l in
     let room = placing-room m given body place (l .room) in
     record {
       agree = started-agree p i n t b h (g .agree) room;
+      names = λ x. started-names p i n x ∙ registered-new m t s (l .free) fits x;
       entries = λ x. started-entries p i n t b h (g .agree) room x ∙ ap (λ (k : ℕ). k + oneIf (same t x)) (g .entries x);
     }
+  where
+    fits : length (called given) ≤ 32
+    fits = called-valid given (l .valid) .0
 
 -- the answer is 0 exactly where the popped entry's name has entries left
 module _ (e : Entry) (m : Machine) (t : List ℕ) (s : SoundHeader m) (r : Held (m .header) (e .name) t) (a : Agree m)

@@ -2,18 +2,20 @@
 -- Assumes nothing.
 use Prim.Native.Nat.{ℕ, suc, _+_, _-_, _*_, _≤_, _<_}
 use mathlib.Core.Path.{_≡_, refl, sym, ap, ap₂, subst, _∙_}
-use mathlib.Core.Bool.{Bool, true, false, cond, true≢false}
+use mathlib.Core.Bool.{Bool, true, false, cond, not, _&&_, true≢false}
 use mathlib.Core.List.{List, [], _∷_, _++_, append-assoc}
 use native.Mathlib.Nat.{zero-add}
 use native.Mathlib.Omega.{arith}
 use native.Mathlib.Numerals.{add-one}
+use lib.Dec.{eqb}
 use lib.ListN.{length, getD, take, drop, set, replicate, length-append, length-drop, length-set, length-replicate, take-append-drop}
 use lib.Seq.{sets, sets-eq, length-sets, length-take-le, drop-append-le, take-append-le, take-append-seam, drop-at, getD-set-same, getD-set-other, getD-take, getD-append-seam, take-set-lt, take-suc-set}
 use borrow.Author.Tests.{eqb-false}
 use Rattle.laws.specs.Lists.{oneIf, lowest, table, same, distinct}
+use Rattle.laws.proofs.Tests.{and-true}
 use Rattle.laws.proofs.Tables.{length-table, table-snoc, table-ext}
-use Rattle.laws.proofs.Lowest.{lowest-le, lowest-hit, lowest-snoc, getD-lowest-snoc}
-use Rattle.laws.proofs.Same.{same-true, same-refl, lowest-own}
+use Rattle.laws.proofs.Lowest.{lowest-le, lowest-hit, lowest-snoc, lowest-snoc-none, getD-lowest-snoc}
+use Rattle.laws.proofs.Same.{same-true, same-refl, same-sym, lowest-own}
 use Rattle.machine.specs.declared.Header.{Header}
 use Rattle.machine.specs.Names.{nameAt, names, slot, isNew, countOf, register}
 
@@ -134,6 +136,23 @@ held-register h n news e =
       own = ap (lowest (same n)) news ∙ lowest-snoc (same n) (names h) n (e ∙ sym (length-names h)) (same-refl n) ∙ length-names h ∙ sym e;
       at = ap₂ (λ (l : List (List ℕ)) (k : ℕ). getD l k []) news (e ∙ sym (length-names h)) ∙ getD-append-seam (names h) n [] [];
     }
+
+-- the names that are new after registering t: those that were, but for t
+pub new-register : (h : Header) (t : List ℕ) → names (register h t) ≡ names h ++ (t ∷ []) → (n : List ℕ)
+    → isNew (register h t) n ≡ (isNew h n && not (same t n))
+unfolding register
+new-register h t news n =
+    ap₂ (λ (l : List (List ℕ)) (k : ℕ). eqb (lowest (same n) l) k) news (add-one (h .held) ∙ ap suc (sym (length-names h)))
+    ∙ lowest-snoc-none (same n) (names h) t
+    ∙ ap₂ (λ (k : ℕ) (b : Bool). eqb (slot h n) k && not b) (length-names h) (same-sym n t)
+
+-- a held name is not
+pub held-not-new : (h : Header) (t : List ℕ) → isNew h t ≡ false → (n : List ℕ) → isNew h n ≡ (isNew h n && not (same t n))
+held-not-new h t e n = go (same t n) refl
+  where
+    go : (b : Bool) → same t n ≡ b → isNew h n ≡ (isNew h n && not b)
+    go true f = rw (← same-true t n f, e)
+    go false f = sym (and-true (isNew h n))
 
 -- the count at the slot of t, set
 module _ (h : Header) (t : List ℕ) (i : ℕ) (r : Held h i t) (long : h .held ≤ length (h .counts)) where

@@ -3,7 +3,7 @@
 -- Assumes nothing.
 use Prim.Native.Nat.{ℕ, _+_, _-_, _/_, _^_, _≤_, _<_}
 use mathlib.Core.Path.{_≡_, refl, sym, ap, subst, _∙_}
-use mathlib.Core.Bool.{Bool, true, false, cond, _&&_}
+use mathlib.Core.Bool.{Bool, true, false, cond, not, _&&_}
 use mathlib.Core.List.{List}
 use native.Mathlib.Nat.{mod-lt}
 use native.Mathlib.Omega.{arith}
@@ -11,7 +11,7 @@ use lib.Dec.{eqb, leb, ltb}
 use lib.ListN.{length, getD, take, set, length-set}
 use lib.Seq.{take-set-lt, length-take-le, getD-take}
 use borrow.Author.Tests.{leb-true, ltb-true, eqb-true, eqb-false, le-leb, lt-ltb, eq-eqb}
-use Rattle.laws.specs.Lists.{every, total, distinct}
+use Rattle.laws.specs.Lists.{every, total, same, distinct}
 use Rattle.laws.proofs.Tests.{both, holds}
 use Rattle.laws.proofs.Every.{every-passes, every-at, every-snoc}
 use Rattle.laws.proofs.Tally.{total-set, total-snoc}
@@ -24,7 +24,7 @@ use Rattle.machine.specs.Names.{names, slot, isNew, register, registered
 use Rattle.machine.specs.Queue.{entry, unpackedEntry, front, pop, push, started}
 use Rattle.machine.specs.Soundness.{validSize, validQueue, headerTests, soundHeader, soundEntry}
 use Rattle.machine.specs.Step.{counted}
-use Rattle.machine.proofs.Names.{Shape, register-shape, length-names, take-held, names-register, Held, held-slot, held-register}
+use Rattle.machine.proofs.Names.{Shape, register-shape, length-names, take-held, names-register, Held, held-slot, held-register, new-register, held-not-new}
 
 -- the header's arrays, and each test of 01's
 pub record SoundHeader (m : Machine) : Type 0 where
@@ -205,6 +205,18 @@ registered-held m n s free fits = go (isNew (m .header) n) refl free
     go true e free =
         let k : m .header .held ≡ 16 → ⊥ = eqb-false _ _ free in
         held-register (m .header) n (names-register (m .header) n (s .shape) (omega (arith, s .few)) fits (name-short m s)) (eqb-true _ _ e)
+
+-- and of the others no more and no fewer are new
+pub registered-new : (m : Machine) (t : List ℕ) → SoundHeader m → (isNew (m .header) t && eqb (m .header .held) 16) ≡ false → length t ≤ 32
+    → (n : List ℕ) → isNew (registered (m .header) t) n ≡ (isNew (m .header) n && not (same t n))
+registered-new m t s free fits n = go (isNew (m .header) t) refl free
+  where
+    go : (b : Bool) → isNew (m .header) t ≡ b → (b && eqb (m .header .held) 16) ≡ false
+        → isNew (cond b (register (m .header) t) (m .header)) n ≡ (isNew (m .header) n && not (same t n))
+    go false e free = held-not-new (m .header) t e n
+    go true e free =
+        let k : m .header .held ≡ 16 → ⊥ = eqb-false _ _ free in
+        new-register (m .header) t (names-register (m .header) t (s .shape) (omega (arith, s .few)) fits (name-short m s)) n
 
 -- a process started
 pub started-sound : (place i : ℕ) (m : Machine) → SoundHeader m → i < m .header .held → m .header .length < length (m .queue)

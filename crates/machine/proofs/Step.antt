@@ -17,7 +17,7 @@ use Rattle.answer.specs.Numbers.{Told, gives}
 use Rattle.load_file.specs.declared.Cell.{Cell}
 use Rattle.machine.specs.declared.Entry.{Entry}
 use Rattle.machine.specs.State.{Machine, Outcome, Verdict, accepted, refusal, first, settle}
-use Rattle.machine.specs.Names.{numbered}
+use Rattle.machine.specs.Names.{isNew, numbered}
 use Rattle.machine.specs.Queue.{entry, front, full, nameOf, pop, push, started}
 use Rattle.machine.specs.Execution.{Ending, dat, divisor, Next, ends, goes, splits}
 use Rattle.machine.specs.Step.{popped, pc, instruction, operandA, operandB, scene, effect, storeTo, storeWrites, coreAfter, stepWrites, counted, Queued, queued, endTold, nextTold, executed, stepChecks, step, executes}
@@ -102,25 +102,27 @@ any-places (ends x) = tt
 any-places (goes p) = tt
 any-places (splits p c) = (tt, tt)
 
--- what queueing leaves alone
-record Requeued (m : Machine) (q : Queued) : Type 0 where
+-- queueing changes the queue, the counts and the next thread numbers
+record QueueOnly (m : Machine) (q : Queued) : Type 0 where
   core : q .machine .core ≡ m .core
   queue : length (q .machine .queue) ≡ length (m .queue)
   size : q .machine .header .size ≡ m .header .size
   steps : q .machine .header .steps ≡ m .header .steps
+  names : (n : List ℕ) → isNew (q .machine .header) n ≡ isNew (m .header) n
   pushes : q .pushes ≤ 2
 
-requeued : (x : Next) (e : Entry) (m : Machine) → Requeued m (queued x e m)
+queue-only : (x : Next) (e : Entry) (m : Machine) → QueueOnly m (queued x e m)
 unfolding push started numbered
-requeued x e m =
-    queued-by-cases (Requeued m) (λ p. Unit {0}) e m
-    (record { core = refl; queue = refl; size = refl; steps = refl; pushes = omega arith })
-    (λ p q. record { core = refl; queue = length-set (m .queue) _ _; size = refl; steps = refl; pushes = omega arith })
+queue-only x e m =
+    queued-by-cases (QueueOnly m) (λ p. Unit {0}) e m
+    (record { core = refl; queue = refl; size = refl; steps = refl; names = λ n. refl; pushes = omega arith })
+    (λ p q. record { core = refl; queue = length-set (m .queue) _ _; size = refl; steps = refl; names = λ n. refl; pushes = omega arith })
     (λ p c q r f. record {
       core = refl;
       queue = length-set (push (entry p (e .thread) (e .name)) m .queue) _ _ ∙ length-set (m .queue) _ _;
       size = refl;
       steps = refl;
+      names = λ n. refl;
       pushes = omega arith;
     }) x (any-places x)
 
@@ -130,6 +132,7 @@ pub record Executed (m : Machine) (o : Outcome) : Type 0 where
   pub queue : length (o .machine .queue) ≡ length (m .queue)
   pub size : o .machine .header .size ≡ m .header .size
   pub steps : o .machine .header .steps ≡ m .header .steps + 1
+  pub names : (n : List ℕ) → isNew (o .machine .header) n ≡ isNew (m .header) n
   pub counted : o .steps ≡ 1
   pub writes : o .writes ≡ stepWrites m
   pub pushes : o .pushes ≤ 2
@@ -149,12 +152,13 @@ executes-next (ends x) left place = go x (eqb left 0)
 pub is-executed : (m : Machine) → Executed m (executed m)
 unfolding executed counted pop
 is-executed m =
-    let q = requeued (effect m .next) (popped m) (counted (coreAfter m) (pop m)) in
+    let q = queue-only (effect m .next) (popped m) (counted (coreAfter m) (pop m)) in
     record {
       core = q .core;
       queue = q .queue;
       size = q .size;
       steps = q .steps;
+      names = q .names;
       counted = refl;
       writes = refl;
       pushes = q .pushes;
