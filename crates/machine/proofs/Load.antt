@@ -1,24 +1,27 @@
 -- Laws of fresh and load, for every machine: a refusal leaves it as it was; the lengths of core and queue stay; what an accepted call
--- found of its checks and leaves. Of a sound record the header stays sound.
+-- found of its checks and leaves. A sound header and a sound core stay sound.
 -- Assumes nothing.
 use Prim.Native.Nat.{ℕ, _≤_, _<_}
 use mathlib.Core.Path.{_≡_, refl, sym, ap, ap₂, _∙_}
 use mathlib.Core.Bool.{Bool, true, false, cond, _&&_, true≢false}
 use mathlib.Core.List.{List, [], _∷_}
+use native.Mathlib.Omega.{arith}
 use lib.Dec.{eqb, ltb}
 use lib.ListN.{length, set, length-set}
-use borrow.Author.Tests.{leb-false, ltb-false, not-false}
+use borrow.Author.Tests.{leb-false, ltb-false, eq-eqb, not-false}
 use Rattle.laws.proofs.Tests.{neither}
 use Rattle.laws.proofs.Every.{_and_, Every}
 use Rattle.load_file.specs.Cells.{soundWord}
 use Rattle.load_file.specs.Offset.{ahead}
 use Rattle.program.specs.Program.{instructions, lowestFault, cells}
 use Rattle.program.specs.Metadata.{validName, called}
+use Rattle.program.proofs.Program.{cells-sound}
 use Rattle.program.proofs.Metadata.{called-valid}
 use Rattle.machine.specs.declared.Header.{Header}
 use Rattle.machine.specs.State.{Machine, Outcome, Verdict, accepted, refusal, first, settle}
 use Rattle.machine.specs.Names.{slot, isNew, register, registered, numbered}
 use Rattle.machine.specs.Queue.{slots, entries, push, started}
+use Rattle.machine.specs.Soundness.{validSize, validQueue}
 use Rattle.machine.specs.Load.{blank, freshChecks, freshMachine, fresh, placed, loaded, loadChecks, load}
 use Rattle.machine.proofs.Checks.{passes, number-of, Refused, refused}
 use Rattle.machine.proofs.Names.{Held}
@@ -54,6 +57,12 @@ module _ (size : ℕ) (core queue : List ℕ) where
   fresh-accepted =
       fresh-by-cases (λ o. o .number ≡ 0 → (first (freshChecks size core queue) ≡ accepted) × (o .machine ≡ freshMachine size core queue))
       (λ n v x z. absurd (true≢false (sym (rw z) ∙ x))) (λ e z. (e, refl))
+
+-- it accepts every valid size and queue length
+pub fresh-accepts : (size : ℕ) (core queue : List ℕ) → validSize size ≡ true → length core ≡ size → validQueue (length queue) ≡ true
+    → fresh size core queue .number ≡ 0
+unfolding fresh
+fresh-accepts size core queue v c q = rw (v, eq-eqb (length core) size c, q)
 
 -- it makes the same machine of any memories of the same lengths
 pub fresh-lengths : (size : ℕ) (core queue core′ queue′ : List ℕ) → length core′ ≡ length core → length queue′ ≡ length queue
@@ -195,3 +204,15 @@ module _ (m : Machine) (given body : List ℕ) (origin place : ℕ) where
 
   pub load-sound : SoundHeader m → SoundHeader (load m given body origin place .machine)
   load-sound s = load-by-cases (λ o. SoundHeader (o .machine)) (λ n v e x. s) (λ e. loaded-sound s (loadable m given body place e))
+
+  -- a sound core stays sound
+  pub loaded-core-sound : Loadable m given body place → SoundCore (m .header .size) (m .core)
+      → SoundCore (m .header .size) (loaded m (called given) body origin place .machine .core)
+  loaded-core-sound l c =
+      rw (is-loaded .core)
+      (placed-sound (m .header .size) (cells (m .header .size) body) (m .core) place
+      (cells-sound (m .header .size) (let h = l .inside in omega arith) (c .small) body (l .lawful)) c)
+
+  pub load-core-sound : SoundCore (m .header .size) (m .core) → SoundCore (m .header .size) (load m given body origin place .machine .core)
+  load-core-sound c =
+      load-by-cases (λ o. SoundCore (m .header .size) (o .machine .core)) (λ n v e x. c) (λ e. loaded-core-sound (loadable m given body place e) c)

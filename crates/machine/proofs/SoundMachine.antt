@@ -20,7 +20,6 @@ use Rattle.load_file.specs.Offset.{euclid, ahead}
 use Rattle.load_file.proofs.Offsets.{euclid-lt, ahead-lt}
 use Rattle.program.specs.Program.{cells}
 use Rattle.program.specs.Metadata.{called}
-use Rattle.program.proofs.Program.{cells-sound}
 use Rattle.machine.specs.declared.Ceiling.{Ceiling}
 use Rattle.machine.specs.declared.Entry.{Entry}
 use Rattle.machine.specs.State.{Machine}
@@ -39,8 +38,8 @@ use Rattle.machine.proofs.Soundness.{SoundHeader, header-sound, size-po
 use Rattle.machine.proofs.Agreement.{Agree}
 use Rattle.machine.proofs.Pointers.{SoundCore, cell-at}
 use Rattle.machine.proofs.Execution.{Places}
-use Rattle.machine.proofs.Load.{fresh-accepted, placed-sound, Loadable, loadable, is-loaded, placing, placing-room, placing-size, placing-entries, placing-sound, load-by-cases, loaded-sound}
-use Rattle.machine.proofs.Step.{operand-a-sound, operand-b-sound, next-places, core-after-sound, queued-by-cases, is-executed, step-by-cases, Ready, nonzero, step-some, counting, counting-sound, counting-room, executed-sound}
+use Rattle.machine.proofs.Load.{fresh-accepted, Loadable, loadable, is-loaded, placing, placing-room, placing-size, placing-entries, placing-sound, load-by-cases, loaded-sound, loaded-core-sound}
+use Rattle.machine.proofs.Step.{operand-a-sound, operand-b-sound, next-places, executed-core-sound, queued-by-cases, is-executed, step-by-cases, Ready, nonzero, step-some, counting, counting-sound, counting-room, executed-sound}
 use Rattle.machine.proofs.ByName.{stepped, begun}
 use Rattle.machine.proofs.Run.{run-keeps, run-answers}
 
@@ -117,7 +116,7 @@ executed-keeps m s some =
     record {
       header = executed-sound m r;
       agree = stepped m r (s .agree) .agree;
-      core = rw (i .core, i .size) (core-after-sound m (s .core) (r .entry .place));
+      core = rw (i .size) (executed-core-sound m (s .core) (r .entry .place));
       entries = rw (i .size) (executed-inside m s some);
     }
 
@@ -144,14 +143,10 @@ module _ (m : Machine) (given body : List ℕ) (origin place : ℕ) (s : SoundMa
   loaded-keeps : Loadable m given body place → SoundMachine (loaded m (called given) body origin place .machine)
   loaded-keeps l =
       let i = is-loaded m given body origin place in
-      let positive = size-positive m (s .header) in
-      let small = size-small m (s .header) in
       record {
         header = loaded-sound m given body origin place (s .header) l;
         agree = begun m given body origin place (s .header) (s .agree) l .agree;
-        core =
-            rw (i .core, i .size)
-            (placed-sound (m .header .size) (cells (m .header .size) body) (m .core) place (cells-sound (m .header .size) positive small body (l .lawful)) (s .core));
+        core = rw (i .size) (loaded-core-sound m given body origin place l (s .core));
         entries = rw (i .size) (rw (placing-size m given body place) at (loaded-inside l));
       }
 

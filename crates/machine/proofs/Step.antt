@@ -1,5 +1,5 @@
 -- Laws of a step, for every machine: a refusal leaves it as it was; steps rise by one exactly when an instruction is executed;
--- the lengths of core and queue stay; at most three writes and two pushes. Of a sound record the header stays sound.
+-- the lengths of core and queue stay; at most three writes and two pushes. A sound header and a sound core stay sound.
 -- Assumes nothing.
 use Prim.Native.Nat.{ℕ, _+_, _≤_, _<_}
 use mathlib.Core.Path.{_≡_, refl, sym, ap, _∙_}
@@ -70,7 +70,7 @@ module _ (m : Machine) (c : SoundCore (m .header .size) (m .core)) (h : pc m < m
   pub next-places : Places (λ p. p < m .header .size) (effect m .next)
   next-places = effect-is-sound .next
 
-  pub core-after-sound : SoundCore (m .header .size) (coreAfter m)
+  core-after-sound : SoundCore (m .header .size) (coreAfter m)
   unfolding coreAfter
   core-after-sound = store (effect m .cell) (effect-is-sound .cell)
     where
@@ -267,3 +267,13 @@ executed-sound m r =
 
 pub step-sound : (m : Machine) → SoundHeader m → SoundHeader (step m .machine)
 step-sound m s = step-by-cases (λ o. SoundHeader (o .machine)) m (λ n v e x. s) (λ e. executed-sound m (ready m (s .shape) e))
+
+-- a sound core stays sound
+pub executed-core-sound : (m : Machine) → SoundCore (m .header .size) (m .core) → pc m < m .header .size
+    → SoundCore (m .header .size) (executed m .machine .core)
+executed-core-sound m c h = rw (is-executed m .core) (core-after-sound m c h)
+
+pub step-core-sound : (m : Machine) → SoundCore (m .header .size) (m .core) → SoundCore (m .header .size) (step m .machine .core)
+step-core-sound m c =
+    step-by-cases (λ o. SoundCore (m .header .size) (o .machine .core)) m (λ n v e x. c)
+    (λ e. executed-core-sound m c (sound-entry (m .header) (front m) (not-false _ (passes (stepChecks m) e .1 .1 .0)) .place))
