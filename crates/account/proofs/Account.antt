@@ -72,7 +72,7 @@ module _ (m m′ : Machine) (t : List ℕ) (w x : ℕ) (log : List Event) (i : I
   others n (suc (suc zero)) h a e z = let o = i .account .others n z in omega arith
   others n (suc (suc (suc p))) h a e z = absurd (let f : ⊥ = omega arith in f)
 
--- a name is new where no load is its, before and after a load of t, if b says that it is t
+-- a says that a name is new, b that it is the one loaded next, k how many loads it had
 still-new : (a b : Bool) (k : ℕ) → a ≡ eqb k 0 → (a && not b) ≡ eqb (oneIf b + k) 0
 still-new a false k e = and-true a ∙ e ∙ ap (λ (j : ℕ). eqb j 0) (sym (zero-add k))
 still-new true true k e = sym (ne-eqb (1 + k) 0 (λ (z : 1 + k ≡ 0). let f : ⊥ = omega arith in f))
@@ -106,7 +106,7 @@ after-step m o w log i sound e s three core =
     balanced : (n : List ℕ) → entriesOf (o .machine) n + tally (endingOf n) after ≡ tally (loadOf n) after + tally (childOf n) after
     balanced n = balance m (o .machine) t w (o .writes) log i n (o .pushes) (e .pushes) (s .entries n)
 
--- a load accepted, of the name t, with k instructions
+-- a load accepted, of the name t
 after-load : (m : Machine) (t body : List ℕ) (place : ℕ) (o : Outcome) (w : ℕ) (log : List Event) → Invariant m w log → SoundMachine (o .machine)
     → Loaded m body place o → Begun m t (o .machine)
     → Invariant (o .machine) (w + o .writes) (Calls.loaded t (instructions body) (o .writes) ∷ log)
@@ -136,7 +136,7 @@ after-load m t body place o w log i sound l b =
     placed-more =
         rw (l .core, l .writes, ← length-cells (m .header .size) body) (placed-cells (cells (m .header .size) body) (m .core) place)
 
--- a refusal
+-- a refusal, and each call
 after-refusal : {m : Machine} {w : ℕ} {log : List Event} → Invariant m w log → Invariant m (w + 0) log
 after-refusal {w} i = rw (add-zero w) i
 

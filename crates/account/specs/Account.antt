@@ -70,7 +70,7 @@ pub record Account (m : Machine) (w : ℕ) (log : List Event) : Type 0 where
   pub cells : differing (m .core) ≤ w
   -- A name without entries has executed nothing since its last ending, or ever if it has none
   pub idle : (n : List ℕ) → entriesOf m n ≡ 0 → sinceEnding n log ≡ 0
-  -- Names are those of accepted calls (01): a name is held exactly where one is its load
+  -- Names are those of accepted calls (01): the record holds a name exactly if an accepted load has it
   pub names : (n : List ℕ) → isNew (m .header) n ≡ eqb (tally (loadOf n) log) 0
   -- no other has entries (01)
   pub others : (n : List ℕ) → tally (loadOf n) log ≡ 0 → entriesOf m n ≡ 0

@@ -1,5 +1,4 @@
--- Lists of calls: what the program does with them, and the log that 01's machine keeps of them
--- (the mission, demand 3; 01, 'One step', its last paragraph).
+-- Lists of calls: what the program does with them, and the log that 01's machine keeps (the mission, demand 3; 01, 'One step', last paragraph).
 -- Assumes nothing.
 use Prim.Native.Nat.{ℕ, zero, suc, _+_, _-_}
 use mathlib.Core.Bool.{cond}

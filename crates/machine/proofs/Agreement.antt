@@ -1,5 +1,4 @@
--- The queue and the names agree: each entry's name is held, and each name's count is the number of its entries.
--- How pop, push and registering change the entries of a name, and that they keep the two in agreement.
+-- The queue and the names agree: each entry's name is held, each name's count is the number of its entries. Pop, push and registering keep that.
 -- Assumes nothing.
 use Prim.Native.Nat.{ℕ, _+_, _≤_, _<_}
 use mathlib.Core.Path.{_≡_, refl, sym, ap, ap₂, subst, _∙_}

@@ -1,5 +1,4 @@
--- Laws of fresh and load, for every machine: a refusal leaves it as it was; the lengths of core and queue stay; what an accepted call
--- found of its checks and leaves. A sound header and a sound core stay sound.
+-- Laws of fresh and load. For every machine: refusals, lengths, what an accepted call leaves. A sound header and a sound core stay sound.
 -- Assumes nothing.
 use Prim.Native.Nat.{ℕ, _≤_, _<_}
 use mathlib.Core.Path.{_≡_, refl, sym, ap, ap₂, _∙_}

@@ -1,5 +1,4 @@
--- Laws of a run. It is 01's 'while': done where the ceiling is reached, else a step, which ends it where the answer is not 0,
--- and else the run from there. What every step keeps, a run keeps.
+-- Laws of a run: it is 01's 'while' over its steps, and keeps what every step keeps.
 -- Assumes nothing.
 use Prim.Native.Nat.{ℕ, zero, suc, _+_, _-_, _≤_, _<_}
 use mathlib.Core.Path.{_≡_, refl, sym, ap, _∙_}
@@ -32,11 +31,12 @@ pub run-refused : (c : Ceiling) (m : Machine) → soundHeader m ≡ false → Re
 run-refused c m e = rw (run-unsound c m e) (refused 9 0 m (plays (ceilingOf c - m .header .steps) m))
 
 -- a sound one: its steps
-run-plays : (c : Ceiling) (m : Machine) → soundHeader m ≡ true → run c m ≡ plays (ceilingOf c - m .header .steps) m
+pub run-plays : (c : Ceiling) (m : Machine) → soundHeader m ≡ true → run c m ≡ plays (ceilingOf c - m .header .steps) m
 unfolding run
 run-plays c m e = rw e
 
 module _ (c : Ceiling) (m : Machine) where
+  -- the ceiling is reached: nothing is done
   pub run-done : soundHeader m ≡ true → ceilingOf c ≤ m .header .steps
       → run c m ≡ record { machine = m; number = 0; value = 0; writes = 0; steps = 0; pushes = 0 }
   run-done e h = run-plays c m e ∙ ap (λ (k : ℕ). plays k m) none
@@ -53,6 +53,7 @@ module _ (c : Ceiling) (m : Machine) where
       one : ceilingOf c - m .header .steps ≡ suc (ceilingOf c - (m .header .steps + 1))
       one = omega arith
 
+  -- the first answer not 0 ends it
   pub run-stop : m .header .steps < ceilingOf c → eqb (step m .number) 0 ≡ false → run c m ≡ step m
   run-stop h e = go (soundHeader m) refl
     where
@@ -60,6 +61,7 @@ module _ (c : Ceiling) (m : Machine) where
       go true s = run-suc s h ∙ ap (λ (b : Bool). cond b (joined (step m) rest) (step m)) e
       go false s = run-unsound c m s ∙ sym (step-unsound m (plays (ceilingOf c - m .header .steps) m) s)
 
+-- else it goes on from where the step left the machine
 pub run-on : (c : Ceiling) (m : Machine) → Shape (m .header) → m .header .steps < ceilingOf c → eqb (step m .number) 0 ≡ true
     → run c m ≡ joined (step m) (run c (step m .machine))
 run-on c m s h e =

@@ -1,5 +1,4 @@
--- The machine that is sound all through: its header, every cell and every entry, and counts that are the numbers of entries.
--- Fresh makes one; load, step and run keep it, and answer it no 9. How a load and a step change the entries of each name.
+-- The machine that is sound all through, its counts those of its entries: fresh makes it; load, step and run keep it and answer it no 9.
 -- Assumes nothing.
 use Prim.Native.Nat.{ℕ, _/_, _^_, _≤_, _<_}
 use mathlib.Core.Path.{_≡_, refl, sym, ap, ap₂, subst, _∙_}
@@ -18,7 +17,6 @@ use Rattle.laws.proofs.Same.{same-refl}
 use Rattle.load_file.specs.Cells.{freshCell, soundWord}
 use Rattle.load_file.specs.Offset.{euclid, ahead}
 use Rattle.load_file.proofs.Offsets.{euclid-lt, ahead-lt}
-use Rattle.program.specs.Program.{cells}
 use Rattle.program.specs.Metadata.{called}
 use Rattle.machine.specs.declared.Ceiling.{Ceiling}
 use Rattle.machine.specs.declared.Entry.{Entry}

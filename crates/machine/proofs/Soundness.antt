@@ -1,5 +1,4 @@
--- The sound header and the sound front entry, test by test, and what keeps the header sound: pop, push, counting a step,
--- a next thread number, registering a name, another core of the same length.
+-- The sound header and front entry, test by test; what keeps a header sound: pop, push, a step counted, a next thread number, a name registered.
 -- Assumes nothing.
 use Prim.Native.Nat.{ℕ, _+_, _-_, _/_, _^_, _≤_, _<_}
 use mathlib.Core.Path.{_≡_, refl, sym, ap, subst, _∙_}

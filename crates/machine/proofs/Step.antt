@@ -1,5 +1,4 @@
--- Laws of a step, for every machine: a refusal leaves it as it was; steps rise by one exactly when an instruction is executed;
--- the lengths of core and queue stay; at most three writes and two pushes. A sound header and a sound core stay sound.
+-- Laws of a step. For every machine: refusals, steps counted, lengths, writes, pushes. A sound header and a sound core stay sound.
 -- Assumes nothing.
 use Prim.Native.Nat.{ℕ, _+_, _≤_, _<_}
 use mathlib.Core.Path.{_≡_, refl, sym, ap, _∙_}
