@@ -20,7 +20,7 @@ use Rattle.load_file.proofs.Offsets.{euclid-lt, ahead-lt}
 use Rattle.program.specs.Metadata.{called}
 use Rattle.machine.specs.declared.Ceiling.{Ceiling}
 use Rattle.machine.specs.declared.Entry.{Entry}
-use Rattle.machine.specs.State.{Machine}
+use Rattle.machine.specs.State.{Machine, accepted, first}
 use Rattle.machine.specs.Names.{slot, numbered}
 use Rattle.machine.specs.Queue.{entry, packedEntry, unpackedEntry, entries, nameOf, entriesOf, front, pop, push, started}
 use Rattle.machine.specs.Soundness.{validQueue}
@@ -38,6 +38,7 @@ use Rattle.machine.proofs.Pointers.{SoundCore, cell-at}
 use Rattle.machine.proofs.Execution.{Places}
 use Rattle.machine.proofs.Load.{fresh-accepted, Loadable, loadable, is-loaded, placing, placing-room, placing-size, placing-entries, placing-sound, load-by-cases, loaded-sound, loaded-core-sound}
 use Rattle.machine.proofs.Step.{operand-a-sound, operand-b-sound, next-places, executed-core-sound, queued-by-cases, is-executed, step-by-cases, Ready, nonzero, step-some, counting, counting-sound, counting-room, executed-sound}
+use Rattle.machine.proofs.Bounds.{Bounded, blank-bounded, executed-bounded, loaded-bounded}
 use Rattle.machine.proofs.ByName.{stepped, begun}
 use Rattle.machine.proofs.Run.{run-keeps, run-answers}
 
@@ -47,6 +48,7 @@ Inside size w = (unpackedEntry w .place .0 < size) × (w / 2 ^ 52 ≡ 0)
 
 pub record SoundMachine (m : Machine) : Type 0 where
   pub header : SoundHeader m
+  pub numbers : Bounded (m .header)
   pub agree : Agree m
   pub core : SoundCore (m .header .size) (m .core)
   pub entries : Every (Inside (m .header .size)) (entries m)
@@ -107,19 +109,21 @@ executed-inside m s some =
     queued-inside (effect m .next) (popped m) (counting m) (counting-sound m r) (r .entry .held) (counting-room m r)
     (next-places m (s .core) (r .entry .place)) (every-pop m some (Inside (m .header .size)) (s .entries) .1)
 
-executed-keeps : (m : Machine) → SoundMachine m → 0 < m .header .length → SoundMachine (executed m .machine)
-executed-keeps m s some =
+executed-keeps : (m : Machine) → SoundMachine m → first (stepChecks m) ≡ accepted → SoundMachine (executed m .machine)
+executed-keeps m s e =
+    let some = step-some m e in
     let r = sound-ready m s some in
     let i = is-executed m in
     record {
       header = executed-sound m r;
+      numbers = executed-bounded m e (s .numbers);
       agree = stepped m r (s .agree) .agree;
       core = rw (i .size) (executed-core-sound m (s .core) (r .entry .place));
       entries = rw (i .size) (executed-inside m s some);
     }
 
 pub step-keeps : (m : Machine) → SoundMachine m → SoundMachine (step m .machine)
-step-keeps m s = step-by-cases (λ o. SoundMachine (o .machine)) m (λ n v e x. s) (λ e. executed-keeps m s (step-some m e))
+step-keeps m s = step-by-cases (λ o. SoundMachine (o .machine)) m (λ n v e x. s) (λ e. executed-keeps m s e)
 
 -- a run keeps it
 pub run-keeps-sound : (c : Ceiling) (m : Machine) → SoundMachine m → SoundMachine (run c m .machine)
@@ -138,18 +142,20 @@ module _ (m : Machine) (given body : List ℕ) (origin place : ℕ) (s : SoundMa
       (rw (placing-size m given body place) (ahead-lt (m .header .size) place (originOf origin) (size-positive m (s .header))))
       (rw (placing-entries m given body place, placing-size m given body place) (s .entries))
 
-  loaded-keeps : Loadable m given body place → SoundMachine (loaded m (called given) body origin place .machine)
-  loaded-keeps l =
+  loaded-keeps : first (loadChecks m given body place) ≡ accepted → SoundMachine (loaded m (called given) body origin place .machine)
+  loaded-keeps e =
+      let l = loadable m given body place e in
       let i = is-loaded m given body origin place in
       record {
         header = loaded-sound m given body origin place (s .header) l;
+        numbers = loaded-bounded m given body origin place (s .numbers) e;
         agree = begun m given body origin place (s .header) (s .agree) l .agree;
         core = rw (i .size) (loaded-core-sound m given body origin place l (s .core));
         entries = rw (i .size) (rw (placing-size m given body place) at (loaded-inside l));
       }
 
   pub load-keeps : SoundMachine (load m given body origin place .machine)
-  load-keeps = load-by-cases m given body origin place (λ o. SoundMachine (o .machine)) (λ n v e x. s) (λ e. loaded-keeps (loadable m given body place e))
+  load-keeps = load-by-cases m given body origin place (λ o. SoundMachine (o .machine)) (λ n v e x. s) loaded-keeps
 
 -- fresh makes one
 pub fresh-sound : (size : ℕ) (core queue : List ℕ) → fresh size core queue .number ≡ 0 → SoundMachine (fresh size core queue .machine)
@@ -179,6 +185,7 @@ fresh-sound size core queue ok =
         unlike = refl;
         sum = refl;
       };
+      numbers = blank-bounded size;
       agree = record { known = tt; counts = λ n. refl };
       core = record {
         small = omega arith;
