@@ -7,7 +7,8 @@ use lib.IntN.{ℤ}
 use Rattle.machine.specs.State.{Machine}
 use Rattle.machine.specs.Load.{fresh}
 use Rattle.machine.specs.Run.{read}
-use Rattle.machine.proofs.SoundMachine.{SoundMachine, fresh-sound, load-keeps, step-keeps, run-keeps-sound, load-not-nine, step-not-nine, run-not-nine, read-done}
+use Rattle.machine.proofs.SoundMachine.{SoundMachine, fresh-sound, load-keeps, step-keeps, run-keeps-sound}
+use Rattle.machine.proofs.NotNine.{load-not-nine, step-not-nine, run-not-nine, read-done}
 use Rattle.account.specs.Calls.{Call, Load, Step, Run, outcome, left}
 
 call-sound : (c : Call) (m : Machine) → SoundMachine m → SoundMachine (outcome c m .machine)

@@ -21,7 +21,8 @@ use Rattle.machine.specs.Step.{popped, effect, counted, executed, stepCh
 use Rattle.machine.specs.Run.{run}
 use Rattle.machine.proofs.Checks.{passes}
 use Rattle.machine.proofs.Load.{placing, load-by-cases}
-use Rattle.machine.proofs.Step.{queued-by-cases, any-places, step-by-cases, counting}
+use Rattle.machine.proofs.Queueing.{queued-by-cases, any-places}
+use Rattle.machine.proofs.Step.{step-by-cases, counting}
 use Rattle.machine.proofs.Run.{run-keeps}
 
 pub record Bounded (h : Header) : Type 0 where

@@ -25,7 +25,8 @@ use Rattle.machine.proofs.Names.{Shape, Held, count-at}
 use Rattle.machine.proofs.Soundness.{SoundHeader, counts-long, push-sound, registered-new}
 use Rattle.machine.proofs.Agreement.{Agree, pop-entries, pop-agree, pop-held, push-entries, push-agree, push-held, counted-agree, counted-entries, counted-held, started-entries, started-agree, is-registered}
 use Rattle.machine.proofs.Load.{Loadable, placing, placing-room, placing-sound, placing-held}
-use Rattle.machine.proofs.Step.{queued-by-cases, any-places, step-by-cases, Ready, ready, front-held, counting, counting-sound, counting-room}
+use Rattle.machine.proofs.Queueing.{queued-by-cases, any-places}
+use Rattle.machine.proofs.Step.{step-by-cases, Ready, ready, front-held, counting, counting-sound, counting-room}
 
 -- the entries of a name after the pushes of a step
 record Grown (m : Machine) (t : List ℕ) (q : Queued) : Type 0 where

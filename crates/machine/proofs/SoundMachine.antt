@@ -1,22 +1,20 @@
--- The machine that is sound all through, its counts those of its entries: fresh makes it; load, step and run keep it and answer it no 9.
+-- The machine that is sound all through, its counts those of its entries: fresh makes it; load, step and run keep it.
 -- Assumes nothing.
 use Prim.Native.Nat.{ℕ, _/_, _^_, _≤_, _<_}
-use mathlib.Core.Path.{_≡_, refl, sym, ap, ap₂, subst, _∙_}
-use mathlib.Core.Bool.{Bool, true, not, _&&_, true≢false}
+use mathlib.Core.Path.{_≡_, refl, sym, subst, _∙_}
+use mathlib.Core.Bool.{true, not}
 use mathlib.Core.List.{List}
-use mathlib.Core.Logic.{inl, inr}
 use native.Mathlib.Omega.{arith}
-use lib.Dec.{T, eqb, leb}
-use lib.IntN.{ℤ}
+use lib.Dec.{eqb, leb}
 use lib.ListN.{length, getD, length-replicate}
-use borrow.Author.Tests.{leb-true, leb-false, eqb-true, eq-eqb, lt-ltb, not-false}
+use borrow.Author.Tests.{leb-true, leb-false, eqb-true, lt-ltb, not-false}
 use Rattle.laws.specs.Lists.{same}
 use Rattle.laws.proofs.Tests.{both, neither}
-use Rattle.laws.proofs.Every.{_and_, Every, every-replicate}
+use Rattle.laws.proofs.Every.{Every, every-replicate}
 use Rattle.laws.proofs.Same.{same-refl}
 use Rattle.load_file.specs.Cells.{freshCell, soundWord}
-use Rattle.load_file.specs.Offset.{euclid, ahead}
-use Rattle.load_file.proofs.Offsets.{euclid-lt, ahead-lt}
+use Rattle.load_file.specs.Offset.{ahead}
+use Rattle.load_file.proofs.Offsets.{ahead-lt}
 use Rattle.program.specs.Metadata.{called}
 use Rattle.machine.specs.declared.Ceiling.{Ceiling}
 use Rattle.machine.specs.declared.Entry.{Entry}
@@ -26,21 +24,22 @@ use Rattle.machine.specs.Queue.{entry, packedEntry, unpackedEntry, entri
 use Rattle.machine.specs.Soundness.{validQueue}
 use Rattle.machine.specs.Load.{originOf, freshChecks, fresh, loaded, loadChecks, load}
 use Rattle.machine.specs.Execution.{Next}
-use Rattle.machine.specs.Step.{pc, popped, effect, counted, queued, executed, stepChecks, step, executes}
-use Rattle.machine.specs.Run.{run, read}
-use Rattle.machine.proofs.Checks.{passes, Without, without}
+use Rattle.machine.specs.Step.{popped, effect, counted, queued, executed, stepChecks, step}
+use Rattle.machine.specs.Run.{run}
+use Rattle.machine.proofs.Checks.{passes}
 use Rattle.machine.proofs.Entries.{packed-place, packed-top}
 use Rattle.machine.proofs.Queue.{tally-pop, every-pop, every-push}
 use Rattle.machine.proofs.Names.{held-at, count-at}
-use Rattle.machine.proofs.Soundness.{SoundHeader, header-sound, size-positive, size-small, counts-long, push-sound, numbered-sound, holding, entry-sound}
+use Rattle.machine.proofs.Soundness.{SoundHeader, size-positive, size-small, counts-long, push-sound, numbered-sound, holding}
 use Rattle.machine.proofs.Agreement.{Agree}
-use Rattle.machine.proofs.Pointers.{SoundCore, cell-at}
+use Rattle.machine.proofs.Pointers.{SoundCore}
 use Rattle.machine.proofs.Execution.{Places}
 use Rattle.machine.proofs.Load.{fresh-accepted, Loadable, loadable, is-loaded, placing, placing-room, placing-size, placing-entries, placing-sound, load-by-cases, loaded-sound, loaded-core-sound}
-use Rattle.machine.proofs.Step.{operand-a-sound, operand-b-sound, next-places, executed-core-sound, queued-by-cases, is-executed, step-by-cases, Ready, nonzero, step-some, counting, counting-sound, counting-room, executed-sound}
+use Rattle.machine.proofs.Queueing.{queued-by-cases}
+use Rattle.machine.proofs.Step.{next-places, executed-core-sound, is-executed, step-by-cases, Ready, step-some, counting, counting-sound, counting-room, executed-sound}
 use Rattle.machine.proofs.Bounds.{Bounded, blank-bounded, executed-bounded, loaded-bounded}
 use Rattle.machine.proofs.ByName.{stepped, begun}
-use Rattle.machine.proofs.Run.{run-keeps, run-answers}
+use Rattle.machine.proofs.Run.{run-keeps}
 
 -- an entry's place is in the core, and its other bits are zero
 abbrev pub Inside : ℕ → ℕ → Type 0
@@ -194,52 +193,3 @@ fresh-sound size core queue ok =
       };
       entries = tt;
     })
-
--- no 9
-other : {k n : ℕ} → T (not (eqb k n)) → k ≡ n → ⊥
-other {k} {n} t e = subst (λ (b : Bool). T (not b)) (eq-eqb k n e) t
-
-module _ (m : Machine) (s : SoundMachine m) where
-  step-without-nine : Without 9 (stepChecks m)
-  step-without-nine =
-      inl (ap not (header-sound m (s .header)))
-      and λ a. inr (other tt)
-      and λ b.
-      let r = sound-ready m s (nonzero b) in
-      inl (ap not (entry-sound (m .header) (front m) (r .entry)))
-      and λ c. inr (other tt)
-      and λ d. inl (ap not (cell-at (m .header .size) (m .core) (s .core) (pc m) (r .entry .place)))
-      and λ e. inr (other tt)
-      and λ f. inl
-      (ap₂ (λ (x y : Bool). not (x && y)) (operand-a-sound m (s .core) (r .entry .place) .sound) (operand-b-sound m (s .core) (r .entry .place) .sound))
-      and λ g. tt
-
-  pub step-not-nine : step m .number ≡ 9 → ⊥
-  step-not-nine =
-      step-by-cases (λ o. o .number ≡ 9 → ⊥) m (λ n v e x. without 9 (stepChecks m) step-without-nine n v e)
-      (λ e z. true≢false (sym (is-executed m .executes) ∙ ap executes z))
-
-  load-without-nine : (given body : List ℕ) (place : ℕ) → Without 9 (loadChecks m given body place)
-  load-without-nine given body place =
-      inl (ap not (header-sound m (s .header)))
-      and λ a. inr (other tt)
-      and λ b. inr (other tt)
-      and λ c. inr (other tt)
-      and λ d. inr (other tt)
-      and λ e. inr (other tt)
-      and λ f. tt
-
-  pub load-not-nine : (given body : List ℕ) (origin place : ℕ) → load m given body origin place .number ≡ 9 → ⊥
-  load-not-nine given body origin place =
-      load-by-cases m given body origin place (λ o. o .number ≡ 9 → ⊥)
-      (λ n v e x. without 9 (loadChecks m given body place) (load-without-nine given body place) n v e)
-      (λ e. other (rw (is-loaded m given body origin place .number) tt))
-
-pub run-not-nine : (c : Ceiling) (m : Machine) → SoundMachine m → run c m .number ≡ 9 → ⊥
-run-not-nine c m s = run-answers SoundMachine step-keeps (λ n. n ≡ 9 → ⊥) (other tt) step-not-nine c m (header-sound m (s .header)) s
-
--- reading a cell of it
-pub read-done : (m : Machine) → SoundMachine m → (z : ℤ) → read m z .number ≡ 0
-unfolding read
-read-done m s z =
-    rw (header-sound m (s .header), cell-at (m .header .size) (m .core) (s .core) (euclid z (m .header .size)) (euclid-lt z (m .header .size) (size-positive m (s .header))))

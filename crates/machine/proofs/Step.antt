@@ -9,21 +9,21 @@ use native.Mathlib.Nat.{add-zero}
 use native.Mathlib.Omega.{arith}
 use lib.Dec.{eqb}
 use lib.ListN.{length, length-set}
-use borrow.Author.Tests.{leb-false, eqb-false, not-false}
+use borrow.Author.Tests.{eqb-false, not-false}
 use Rattle.laws.specs.Lists.{oneIf}
 use Rattle.laws.proofs.Every.{_and_}
 use Rattle.answer.specs.Numbers.{Told, gives}
 use Rattle.load_file.specs.declared.Cell.{Cell}
-use Rattle.machine.specs.declared.Entry.{Entry}
 use Rattle.machine.specs.State.{Machine, Outcome, Verdict, accepted, refusal, first, settle}
-use Rattle.machine.specs.Names.{isNew, numbered}
-use Rattle.machine.specs.Queue.{entry, front, full, nameOf, pop, push, started}
+use Rattle.machine.specs.Names.{isNew}
+use Rattle.machine.specs.Queue.{front, nameOf, pop}
 use Rattle.machine.specs.Execution.{Ending, dat, divisor, Next, ends, goes, splits}
-use Rattle.machine.specs.Step.{popped, pc, instruction, operandA, operandB, scene, effect, storeTo, storeWrites, coreAfter, stepWrites, counted, Queued, queued, endTold, nextTold, executed, stepChecks, step, executes}
+use Rattle.machine.specs.Step.{popped, pc, instruction, operandA, operandB, scene, effect, storeTo, storeWrites, coreAfter, stepWrites, counted, endTold, nextTold, executed, stepChecks, step, executes}
 use Rattle.machine.proofs.Checks.{passes, number-of, Refused, refused}
 use Rattle.machine.proofs.Names.{Shape, Held, held-at}
-use Rattle.machine.proofs.Soundness.{SoundHeader, sound-header, pop-sound, push-sound, counted-sound, started-sound, SoundEntry, sound-entry}
+use Rattle.machine.proofs.Soundness.{SoundHeader, sound-header, pop-sound, counted-sound, SoundEntry, sound-entry}
 use Rattle.machine.proofs.Pointers.{length-operand, operand-writes, SoundCore, cell-set, fields-at, SoundOperand, operand-sound}
+use Rattle.machine.proofs.Queueing.{queue-only, queued-sound}
 use Rattle.machine.proofs.Execution.{Places, SoundStore, SoundEffect, effect-sound}
 
 -- the core
@@ -76,54 +76,6 @@ module _ (m : Machine) (c : SoundCore (m .header .size) (m .core)) (h : pc m < m
       store : (x : Option Cell) → SoundStore (m .header .size) x → SoundCore (m .header .size) (storeTo x (operandB m .core) (operandB m .pointer))
       store none s = operand-b-sound .core
       store (some x) s = cell-set (m .header .size) (operandB m .core) (operandB m .pointer) x (operand-b-sound .core) s
-
--- the three ways to queue: nothing; the next place; the next place and, where there is still room, a child
-module _ (P : Queued → Type 0) (Q : ℕ → Type 0) (e : Entry) (m : Machine) where
-  abbrev next : ℕ → Machine
-  next p = push (entry p (e .thread) (e .name)) m
-
-  pub queued-by-cases : P (record { machine = m; pushes = 0 })
-      → ((p : ℕ) → Q p → P (record { machine = next p; pushes = 1 }))
-      → ((p c : ℕ) → Q p → Q c → full (next p) ≡ false → P (record { machine = started c (e .name) (next p); pushes = 2 }))
-      → (x : Next) → Places Q x → P (queued x e m)
-  queued-by-cases nothing one two (ends x) q = nothing
-  queued-by-cases nothing one two (goes p) q = one p q
-  queued-by-cases nothing one two (splits p c) q = go (full (next p)) refl
-    where
-      go : (b : Bool) → full (next p) ≡ b
-          → P (cond b (record { machine = next p; pushes = 1 }) (record { machine = started c (e .name) (next p); pushes = 2 }))
-      go true f = one p (q .0)
-      go false f = two p c (q .0) (q .1) f
-
--- of any places
-pub any-places : (x : Next) → Places (λ p. Unit {0}) x
-any-places (ends x) = tt
-any-places (goes p) = tt
-any-places (splits p c) = (tt, tt)
-
--- queueing changes the queue, the counts and the next thread numbers
-record QueueOnly (m : Machine) (q : Queued) : Type 0 where
-  core : q .machine .core ≡ m .core
-  queue : length (q .machine .queue) ≡ length (m .queue)
-  size : q .machine .header .size ≡ m .header .size
-  steps : q .machine .header .steps ≡ m .header .steps
-  names : (n : List ℕ) → isNew (q .machine .header) n ≡ isNew (m .header) n
-  pushes : q .pushes ≤ 2
-
-queue-only : (x : Next) (e : Entry) (m : Machine) → QueueOnly m (queued x e m)
-unfolding push started numbered
-queue-only x e m =
-    queued-by-cases (QueueOnly m) (λ p. Unit {0}) e m
-    (record { core = refl; queue = refl; size = refl; steps = refl; names = λ n. refl; pushes = omega arith })
-    (λ p q. record { core = refl; queue = length-set (m .queue) _ _; size = refl; steps = refl; names = λ n. refl; pushes = omega arith })
-    (λ p c q r f. record {
-      core = refl;
-      queue = length-set (push (entry p (e .thread) (e .name)) m .queue) _ _ ∙ length-set (m .queue) _ _;
-      size = refl;
-      steps = refl;
-      names = λ n. refl;
-      pushes = omega arith;
-    }) x (any-places x)
 
 -- an instruction executed
 pub record Executed (m : Machine) (o : Outcome) : Type 0 where
@@ -249,16 +201,6 @@ module _ (m : Machine) (r : Ready m) where
   counting-held = r .entry .held
 
 -- a sound header stays sound
-queued-sound : (x : Next) (e : Entry) (m : Machine) → SoundHeader m → e .name < m .header .held → m .header .length < length (m .queue)
-    → SoundHeader (queued x e m .machine)
-unfolding push
-queued-sound x e m s held room =
-    queued-by-cases (λ q. SoundHeader (q .machine)) (λ p. Unit {0}) e m s
-    (λ p q. push-sound m s (entry p (e .thread) (e .name)) held room)
-    (λ p c q r f.
-    started-sound c (e .name) (push (entry p (e .thread) (e .name)) m) (push-sound m s (entry p (e .thread) (e .name)) held room) held (leb-false _ _ f))
-    x (any-places x)
-
 pub executed-sound : (m : Machine) → Ready m → SoundHeader (executed m .machine)
 unfolding executed
 executed-sound m r =
