@@ -6,3 +6,7 @@ pub mod Cases
 pub mod Tests
 pub mod Lists
 pub mod Loops
+pub mod Every
+pub mod Tally
+pub mod Lowest
+pub mod Same

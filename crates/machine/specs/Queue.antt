@@ -5,11 +5,12 @@ use mathlib.Core.Bool.{Bool}
 use mathlib.Core.List.{List, [], _∷_}
 use lib.Dec.{leb}
 use lib.ListN.{length, getD, set}
+use Rattle.laws.specs.Lists.{tally, same}
 use Rattle.load_file.specs.Offset.{ahead}
 use Rattle.machine.specs.declared.Entry.{Entry}
 use Rattle.machine.specs.declared.Header.{Header}
 use Rattle.machine.specs.State.{Machine}
-use Rattle.machine.specs.Names.{numbered}
+use Rattle.machine.specs.Names.{names, numbered}
 
 -- Entry, 64 bits: place in bits 0–15, thread number 16–47, name index 48–51, else zero
 abbrev pub packedEntry : Entry → ℕ
@@ -29,6 +30,13 @@ slots q i (suc n) = getD q i 0 ∷ slots q (ahead (length q) i 1) n
 -- queue entries: the slots from the head on, length many
 unfoldable pub entries : Machine → List ℕ
 entries m = slots (m .queue) (m .header .head) (m .header .length)
+
+-- the name of an entry, and how many entries a name has
+abbrev pub nameOf : Machine → ℕ → List ℕ
+nameOf m w = getD (names (m .header)) (unpackedEntry w .name) []
+
+abbrev pub entriesOf : Machine → List ℕ → ℕ
+entriesOf m n = tally (λ w. same (nameOf m w) n) (entries m)
 
 -- the process limit is the queue memory's length and covers all names together
 abbrev pub full : Machine → Bool

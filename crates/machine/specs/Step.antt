@@ -1,7 +1,7 @@
 -- One step (01, 'One step').
 -- Assumes nothing.
 use Prim.Native.Nat.{ℕ, _+_}
-use mathlib.Core.Bool.{cond, not, _&&_, _||_}
+use mathlib.Core.Bool.{Bool, cond, not, _&&_, _||_}
 use mathlib.Core.List.{List, [], _∷_}
 use lib.Dec.{eqb}
 use lib.ListN.{getD}
@@ -120,3 +120,7 @@ stepChecks m =
 
 unfoldable pub step : Machine → Outcome
 step m = settle (first (stepChecks m)) m (executed m)
+
+-- a step answered 0, 11 or 12 executes one instruction
+abbrev pub executes : ℕ → Bool
+executes number = among (0 ∷ 11 ∷ 12 ∷ []) number

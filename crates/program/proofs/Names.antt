@@ -1,15 +1,17 @@
--- A name, byte by byte.
+-- A name, byte by byte, and what a warrior is called.
 -- Assumes nothing.
-use mathlib.Core.Path.{_≡_, sym, ap, _∙_}
+use mathlib.Core.Path.{_≡_, refl, sym, ap, _∙_}
 use mathlib.Core.Bool.{Bool, true, false, _&&_}
-use mathlib.Core.List.{List}
+use mathlib.Core.List.{List, [], _∷_}
 use Prim.Native.Nat.{ℕ, _+_, _<_, _≤_}
 use native.Mathlib.Omega.{arith}
 use lib.ListN.{length, getD, drop, drop-of-length-le}
-use borrow.Author.Tests.{le-leb, lt-leb}
+use lib.Dec.{leb}
+use borrow.Author.Tests.{le-leb, lt-leb, leb-true}
 use Rattle.laws.specs.Lists.{every}
+use Rattle.laws.proofs.Tests.{both}
 use Rattle.laws.proofs.Lists.{drop-first}
-use Rattle.program.specs.Metadata.{validByte, validName}
+use Rattle.program.specs.Metadata.{validByte, validName, called}
 
 pub long : (name : List ℕ) → 32 < length name → false ≡ validName name
 long name h = simp (lt-leb _ _ h)
@@ -35,3 +37,11 @@ module _ (name : List ℕ) (i : ℕ) (f : From name i) where
 
   pub over : length name ≤ i → true ≡ validName name
   over h = sym (is ∙ ap (every validByte) (drop-of-length-le name h))
+
+-- what a warrior is called has 1 to 32 bytes, all valid, where its name is valid
+pub called-valid : (name : List ℕ) → validName name ≡ true
+    → (length (called name) ≤ 32) × (1 ≤ length (called name)) × (every validByte (called name) ≡ true)
+called-valid [] e = (omega arith, omega arith, refl)
+called-valid (b ∷ bs) e =
+    let p = both (leb (length (b ∷ bs)) 32) (every validByte (b ∷ bs)) e in
+    (leb-true _ _ (p .0), omega arith, p .1)

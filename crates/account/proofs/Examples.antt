@@ -1,0 +1,62 @@
+-- What the program's record and the log of 01's machine come to for two lists of calls, computed.
+-- Assumes nothing.
+use Prim.Native.Nat.{ℕ}
+use mathlib.Core.Path.{_≡_, refl}
+use mathlib.Core.List.{List, [], _∷_, _++_}
+use lib.ListN.{replicate}
+use Rattle.laws.specs.Lists.{tally}
+use Rattle.load_file.specs.Cells.{soundWord}
+use Rattle.load_file.specs.Defaults.{unnamed}
+use Rattle.load_file.specs.Opcode.{DAT, JMP, SPL}
+use Rattle.load_file.specs.Mode.{Direct, PreDecIndirectB}
+use Rattle.program.specs.Program.{lawful, lowestFault, cells}
+use Rattle.program.specs.Metadata.{called}
+use Rattle.machine.specs.declared.Ceiling.the-variants.{Steps}
+use Rattle.machine.specs.State.{Machine}
+use Rattle.machine.specs.Names.{countOf, register, numbered}
+use Rattle.machine.specs.Queue.{entries, entriesOf, pop, push, started}
+use Rattle.machine.specs.Soundness.{soundHeader, soundEntry}
+use Rattle.machine.specs.Load.{fresh, loaded, load}
+use Rattle.machine.specs.Pointers.{operand}
+use Rattle.machine.specs.Execution.{effectOf}
+use Rattle.machine.specs.Step.{effect, coreAfter, stepWrites, counted, executed, step}
+use Rattle.machine.specs.Run.{run}
+use Rattle.machine.specs.Battles.{bytes, datum}
+use Rattle.account.specs.Calls as Calls
+use Rattle.account.specs.Calls.{Call, Load, Step, Run, left, logged}
+use Rattle.account.specs.Account.{endingOf}
+
+-- M 8, 4 queue entries
+abbrev start : Machine
+start = fresh 8 (replicate 8 7) (replicate 4 9) .machine
+
+-- every unnamed warrior is called Warrior0
+abbrev Warrior0 : List ℕ
+Warrior0 = called []
+
+-- two unnamed warriors: the first ends on a DAT, the second jumps to itself and runs on
+abbrev unnamedPair : List Call
+unnamedPair = Load [] (datum 0 0) 65535 0 ∷ Load [] (bytes JMP unnamed Direct 0 Direct 0) 65535 4 ∷ Step ∷ Step ∷ []
+
+pub unnamed-pair : (countOf (left unnamedPair start .header) Warrior0 ≡ 1)
+    × (entriesOf (left unnamedPair start) Warrior0 ≡ 1)
+    × (logged unnamedPair start []
+    ≡ Calls.executed Warrior0 1 0 ∷ Calls.executed Warrior0 0 0 ∷ Calls.loaded Warrior0 1 1 ∷ Calls.loaded Warrior0 1 1 ∷ [])
+    × (tally (endingOf Warrior0) (logged unnamedPair start []) ≡ 1)
+unfolding soundWord lawful lowestFault cells register numbered entries pop push started soundHeader soundEntry fresh loaded load operand effectOf effect coreAfter stepWrites counted executed step
+unnamed-pair = (refl, refl, refl, refl)
+
+-- SPL $2, DAT, DAT <1,$0: a refused load, a step, a run to the last ending and a step on an empty queue
+abbrev splitting : List Call
+splitting =
+    Load [] (bytes SPL unnamed Direct 2 Direct 0 ++ datum 0 0 ++ bytes DAT unnamed PreDecIndirectB 1 Direct 0) 65535 0
+    ∷ Load [] [] 0 8
+    ∷ Step
+    ∷ Run (Steps 9)
+    ∷ Step
+    ∷ []
+
+splitting-log : logged splitting start []
+    ≡ Calls.executed Warrior0 0 1 ∷ Calls.executed Warrior0 0 0 ∷ Calls.executed Warrior0 2 0 ∷ Calls.loaded Warrior0 3 3 ∷ []
+unfolding soundWord lawful lowestFault cells register numbered entries pop push started soundHeader soundEntry fresh loaded load operand effectOf effect coreAfter stepWrites counted executed step run
+splitting-log = refl

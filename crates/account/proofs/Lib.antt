@@ -1,0 +1,5 @@
+pub mod Cells
+pub mod Account
+pub mod NeverNine
+pub mod Endings
+pub mod Examples

@@ -1,0 +1,110 @@
+-- Steps taken and next thread numbers stay at most 4,294,967,295: the part of 01's sound header that the program has by its types.
+-- Assumes nothing.
+use Prim.Native.Nat.{ℕ, zero, suc, _≤_, _<_}
+use mathlib.Core.Path.{_≡_, refl, sym, subst}
+use mathlib.Core.Bool.{Bool, true, false, cond, not, _&&_}
+use mathlib.Core.List.{List, [], _∷_}
+use native.Mathlib.Omega.{arith}
+use lib.Dec.{eqb}
+use lib.ListN.{getD, set}
+use borrow.Author.Tests.{eqb-true, eqb-false}
+use Rattle.laws.proofs.Tests.{neither}
+use Rattle.laws.proofs.Every.{Every, every-or, every-set, every-replicate}
+use Rattle.program.specs.Metadata.{called}
+use Rattle.machine.specs.declared.Ceiling.{Ceiling}
+use Rattle.machine.specs.declared.Header.{Header}
+use Rattle.machine.specs.State.{Machine, accepted, first}
+use Rattle.machine.specs.Names.{slot, isNew, register, registered, numbered}
+use Rattle.machine.specs.Queue.{pop, push, started}
+use Rattle.machine.specs.Load.{blank, loaded, loadChecks, load}
+use Rattle.machine.specs.Step.{popped, effect, counted, executed, stepChecks, step}
+use Rattle.machine.specs.Run.{run}
+use Rattle.machine.proofs.Checks.{passes}
+use Rattle.machine.proofs.Load.{placing, load-by-cases}
+use Rattle.machine.proofs.Queueing.{queued-by-cases, any-places}
+use Rattle.machine.proofs.Step.{step-by-cases, counting}
+use Rattle.machine.proofs.Run.{run-keeps}
+
+pub record Bounded (h : Header) : Type 0 where
+  pub steps : h .steps ≤ 4294967295
+  pub threads : Every (λ k. k ≤ 4294967295) (h .threads)
+
+pub blank-bounded : (size : ℕ) → Bounded (blank size)
+blank-bounded size = record { steps = omega arith; threads = every-replicate (λ k. k ≤ 4294967295) 16 0 (omega arith) }
+
+-- a next thread number that is not the greatest is below it
+thread-below : (h : Header) (i : ℕ) → Bounded h → eqb (getD (h .threads) i 0) 4294967295 ≡ false → getD (h .threads) i 0 < 4294967295
+thread-below h i b e =
+    let l : getD (h .threads) i 0 ≤ 4294967295 = every-or (λ k. k ≤ 4294967295) (h .threads) i 0 (b .threads) (omega arith) in
+    let n : getD (h .threads) i 0 ≡ 4294967295 → ⊥ = eqb-false _ _ e in
+    omega arith
+
+started-bounded : (place i : ℕ) (m : Machine) → getD (m .header .threads) i 0 < 4294967295 → Bounded (m .header) → Bounded (started place i m .header)
+unfolding started push numbered
+started-bounded place i m h b =
+    record { steps = b .steps; threads = every-set (λ k. k ≤ 4294967295) (m .header .threads) i _ (b .threads) (omega arith) }
+
+-- a step
+pub executed-bounded : (m : Machine) → first (stepChecks m) ≡ accepted → Bounded (m .header) → Bounded (executed m .machine .header)
+unfolding executed push counted pop
+executed-bounded m e b =
+    queued-by-cases (λ q. Bounded (q .machine .header)) (λ p. Unit {0}) (popped m) (counting m) one
+    (λ p q. record { steps = one .steps; threads = one .threads })
+    (λ p c q r f. started-bounded c (popped m .name) _ below (record { steps = one .steps; threads = one .threads }))
+    (effect m .next) (any-places (effect m .next))
+  where
+    eight : (eqb (m .header .steps) 4294967295 ≡ false) × (eqb (getD (m .header .threads) (popped m .name) 0) 4294967295 ≡ false)
+    eight = neither _ _ (passes (stepChecks m) e .1 .1 .1 .0)
+
+    below : getD (m .header .threads) (popped m .name) 0 < 4294967295
+    below = thread-below (m .header) (popped m .name) b (eight .1)
+
+    one : Bounded (counting m .header)
+    one =
+        let n : m .header .steps ≡ 4294967295 → ⊥ = eqb-false _ _ (eight .0) in
+        let l = b .steps in
+        record { steps = omega arith; threads = b .threads }
+
+pub step-bounded : (m : Machine) → Bounded (m .header) → Bounded (step m .machine .header)
+step-bounded m b = step-by-cases (λ o. Bounded (o .machine .header)) m (λ n v e x. b) (λ e. executed-bounded m e b)
+
+pub run-bounded : (c : Ceiling) (m : Machine) → Bounded (m .header) → Bounded (run c m .machine .header)
+run-bounded c m b = run-keeps (λ n. Bounded (n .header)) step-bounded c m b
+
+-- a load
+zero-set : (l : List ℕ) (i : ℕ) → _≡_ {A = ℕ} (getD (set l i 0) i 0) 0
+zero-set [] i = refl
+zero-set (x ∷ xs) zero = refl
+zero-set (x ∷ xs) (suc i) = zero-set xs i
+
+module _ (h : Header) (n : List ℕ) (b : Bounded h) (free : (not (isNew h n) && eqb (getD (h .threads) (slot h n) 0) 4294967295) ≡ false) where
+  registered-bounded : Bounded (registered h n)
+  unfolding register
+  registered-bounded = go (isNew h n)
+    where
+      go : (t : Bool) → Bounded (cond t (register h n) h)
+      go true = record { steps = b .steps; threads = every-set (λ k. k ≤ 4294967295) (h .threads) (h .held) 0 (b .threads) (omega arith) }
+      go false = b
+
+  registered-below : getD (registered h n .threads) (slot h n) 0 < 4294967295
+  unfolding register
+  registered-below = go (isNew h n) refl free
+    where
+      go : (t : Bool) → isNew h n ≡ t → (not t && eqb (getD (h .threads) (slot h n) 0) 4294967295) ≡ false
+          → getD (cond t (register h n) h .threads) (slot h n) 0 < 4294967295
+      go false e f = thread-below h (slot h n) b f
+      go true e f =
+          let z : getD (set (h .threads) (h .held) 0) (slot h n) 0 ≡ 0
+          = subst (λ (i : ℕ). getD (set (h .threads) (h .held) 0) i 0 ≡ 0) (sym (eqb-true _ _ e)) (zero-set (h .threads) (h .held)) in
+          omega arith
+
+module _ (m : Machine) (given body : List ℕ) (origin place : ℕ) (b : Bounded (m .header)) where
+  pub loaded-bounded : first (loadChecks m given body place) ≡ accepted → Bounded (loaded m (called given) body origin place .machine .header)
+  unfolding loaded
+  loaded-bounded e =
+      let free = passes (loadChecks m given body place) e .1 .1 .1 .1 .1 .0 in
+      started-bounded _ (slot (m .header) (called given)) (placing m given body place) (registered-below (m .header) (called given) b free)
+      (registered-bounded (m .header) (called given) b free)
+
+  pub load-bounded : Bounded (load m given body origin place .machine .header)
+  load-bounded = load-by-cases m given body origin place (λ o. Bounded (o .machine .header)) (λ n v e x. b) loaded-bounded

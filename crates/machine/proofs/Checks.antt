@@ -1,0 +1,68 @@
+-- The order of refusals: what a call knows that passed its checks, and which numbers a refused one can have.
+-- Assumes nothing.
+use Prim.Native.Nat.{ℕ}
+use mathlib.Core.Path.{_≡_, refl, sym, ap, subst, _∙_}
+use mathlib.Core.Bool.{Bool, true, false, cond, true≢false, false≢true}
+use mathlib.Core.List.{List, [], _∷_}
+use mathlib.Core.Logic.{_⊎_, inl, inr}
+use Rattle.machine.specs.State.{Machine, Outcome, Check, Verdict, accepted, refusal, first, settle}
+
+abbrev isAccepted : Verdict → Bool
+isAccepted accepted = true
+isAccepted (refusal n v) = false
+
+abbrev numberIn : Verdict → ℕ
+numberIn accepted = 0
+numberIn (refusal n v) = n
+
+-- accepted: no row applies
+abbrev pub Passes : List Check → Type 0
+Passes [] = Unit {0}
+Passes (c ∷ cs) = (c .applies ≡ false) × Passes cs
+
+pub passes : (cs : List Check) → first cs ≡ accepted → Passes cs
+passes [] e = tt
+passes (c ∷ cs) e = go (c .applies) refl e (passes cs)
+  where
+    go : (b : Bool) → c .applies ≡ b → cond b (refusal (c .number) (c .value)) (first cs) ≡ accepted → (first cs ≡ accepted → Passes cs)
+        → (c .applies ≡ false) × Passes cs
+    go true h e r = absurd (false≢true (ap isAccepted e))
+    go false h e r = (h, r e)
+
+-- refused: the number is that of a row
+abbrev pub Numbers : (ℕ → Type 0) → List Check → Type 0
+Numbers P [] = Unit {0}
+Numbers P (c ∷ cs) = P (c .number) × Numbers P cs
+
+pub number-of : (P : ℕ → Type 0) (cs : List Check) → Numbers P cs → (n v : ℕ) → first cs ≡ refusal n v → P n
+number-of P [] h n v e = absurd (true≢false (ap isAccepted e))
+number-of P (c ∷ cs) h n v e = go (c .applies) e (number-of P cs (h .1) n v)
+  where
+    go : (b : Bool) → cond b (refusal (c .number) (c .value)) (first cs) ≡ refusal n v → (first cs ≡ refusal n v → P n) → P n
+    go true e r = subst P (ap numberIn e) (h .0)
+    go false e r = r e
+
+-- a number that is never given: each row that is reached does not apply or has another number
+abbrev pub Without : ℕ → List Check → Type 0
+Without k [] = Unit {0}
+Without k (c ∷ cs) = ((c .applies ≡ false) ⊎ (c .number ≡ k → ⊥)) × (c .applies ≡ false → Without k cs)
+
+pub without : (k : ℕ) (cs : List Check) → Without k cs → (n v : ℕ) → first cs ≡ refusal n v → n ≡ k → ⊥
+without k [] w n v e z = true≢false (ap isAccepted e)
+without k (c ∷ cs) w n v e z = go (c .applies) refl e (w .0) (λ f e. without k cs (w .1 f) n v e z)
+  where
+    go : (b : Bool) → c .applies ≡ b → cond b (refusal (c .number) (c .value)) (first cs) ≡ refusal n v
+        → (c .applies ≡ false) ⊎ (c .number ≡ k → ⊥) → (c .applies ≡ false → first cs ≡ refusal n v → ⊥) → ⊥
+    go true h e (inl f) r = true≢false (sym h ∙ f)
+    go true h e (inr f) r = f (ap numberIn e ∙ z)
+    go false h e x r = r h e
+
+-- a refusal leaves the machine as it was and reports 0 writes, steps and pushes
+pub record Refused (m : Machine) (o : Outcome) : Type 0 where
+  pub machine : o .machine ≡ m
+  pub writes : o .writes ≡ 0
+  pub steps : o .steps ≡ 0
+  pub pushes : o .pushes ≡ 0
+
+pub refused : (n v : ℕ) (m : Machine) (o : Outcome) → Refused m (settle (refusal n v) m o)
+refused n v m o = record { machine = refl; writes = refl; steps = refl; pushes = refl }

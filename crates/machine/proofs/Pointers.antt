@@ -1,0 +1,115 @@
+-- Laws of an operand: it keeps the core's length, writes once at most, and of a sound core it leaves a sound one and reads sound cells.
+-- Assumes nothing.
+use Prim.Native.Nat.{ℕ, _≤_, _<_}
+use mathlib.Core.Path.{_≡_, refl, _∙_}
+use mathlib.Core.Bool.{true}
+use mathlib.Core.List.{List}
+use native.Mathlib.Nat.{mod-lt}
+use native.Mathlib.Omega.{arith}
+use lib.ListN.{length, getD, set, length-set}
+use Rattle.laws.proofs.Every.{Every, every-at, every-set}
+use Rattle.load_file.specs.declared.Cell.{Cell}
+use Rattle.load_file.specs.Types.{Field, A, B}
+use Rattle.load_file.specs.Offset.{ahead}
+use Rattle.load_file.specs.Cells.{packed, unpacked, soundWord, number, withNumber}
+use Rattle.load_file.proofs.Offsets.{ahead-lt}
+use Rattle.load_file.proofs.Soundness.{Sound, sound-fields, fields-sound}
+use Rattle.machine.specs.Pointers.{Reach, here, there, through, reaches, Turn, keeps, lowers, raises, turns, fieldOf, used, pointerOf, changed, before, after, turnWrites, Operand, operand}
+
+-- the core's length
+length-before : (t : Turn) (size : ℕ) (core : List ℕ) (l : ℕ) (f : Field) (x : ℕ) → length (before t size core l f x) ≡ length core
+length-before keeps size core l f x = refl
+length-before lowers size core l f x = length-set core l _
+length-before raises size core l f x = refl
+
+length-after : (t : Turn) (size : ℕ) (core : List ℕ) (l : ℕ) (f : Field) (x : ℕ) → length (after t size core l f x) ≡ length core
+length-after keeps size core l f x = refl
+length-after lowers size core l f x = refl
+length-after raises size core l f x = length-set core l _
+
+pub length-operand : (size : ℕ) (core : List ℕ) (pc mode n : ℕ) → length (operand size core pc mode n .core) ≡ length core
+unfolding operand
+length-operand size core pc mode n =
+    let t = getD turns mode keeps in
+    length-after t size (before t size core (ahead size pc n) _ _) (ahead size pc n) _ _ ∙ length-before t size core (ahead size pc n) _ _
+
+-- one write at most
+turn-writes : (t : Turn) → turnWrites t ≤ 1
+turn-writes keeps = omega arith
+turn-writes lowers = omega arith
+turn-writes raises = omega arith
+
+pub operand-writes : (size : ℕ) (core : List ℕ) (pc mode n : ℕ) → operand size core pc mode n .writes ≤ 1
+unfolding operand
+operand-writes size core pc mode n = turn-writes (getD turns mode keeps)
+
+-- a core of that size whose cells are all sound
+pub record SoundCore (size : ℕ) (core : List ℕ) : Type 0 where
+  pub small : size ≤ 65536
+  pub length : length core ≡ size
+  pub cells : Every (λ w. soundWord size w ≡ true) core
+
+module _ (size : ℕ) where
+  pub cell-at : (core : List ℕ) → SoundCore size core → (i : ℕ) → i < size → soundWord size (getD core i 0) ≡ true
+  cell-at core c i h = every-at (λ w. soundWord size w ≡ true) core i 0 (c .cells) (rw (c .length) h)
+
+  pub fields-at : (core : List ℕ) → SoundCore size core → (i : ℕ) → i < size → Sound size (unpacked (getD core i 0))
+  fields-at core c i h = sound-fields size (getD core i 0) (cell-at core c i h) .1
+
+  -- a sound word put at any place
+  pub word-set : (core : List ℕ) (i w : ℕ) → SoundCore size core → soundWord size w ≡ true → SoundCore size (set core i w)
+  word-set core i w c s =
+      record { small = c .small; length = length-set core i w ∙ c .length; cells = every-set (λ w. soundWord size w ≡ true) core i w (c .cells) s }
+
+  pub cell-set : (core : List ℕ) (i : ℕ) (x : Cell) → SoundCore size core → Sound size x → SoundCore size (set core i (packed x))
+  cell-set core i x c s = word-set core i (packed x) c (fields-sound size x (c .small) s)
+
+  pub number-lt : (f : Field) (c : Cell) → Sound size c → number f c < size
+  number-lt A c s = s .a
+  number-lt B c s = s .b
+
+  pub with-sound : (f : Field) (x : ℕ) (c : Cell) → Sound size c → x < size → Sound size (withNumber f x c)
+  with-sound A x c s h = record { opcode = s .opcode; modifier = s .modifier; a-mode = s .a-mode; b-mode = s .b-mode; a = h; b = s .b }
+  with-sound B x c s h = record { opcode = s .opcode; modifier = s .modifier; a-mode = s .a-mode; b-mode = s .b-mode; a = s .a; b = h }
+
+  changed-sound : (core : List ℕ) (l : ℕ) (f : Field) (x : ℕ) → SoundCore size core → l < size → x < size → SoundCore size (changed core l f x)
+  changed-sound core l f x c hl hx = cell-set core l _ c (with-sound f x _ (fields-at core c l hl) hx)
+
+  before-sound : (t : Turn) (core : List ℕ) (l : ℕ) (f : Field) (x : ℕ) → SoundCore size core → l < size → SoundCore size (before t size core l f x)
+  before-sound keeps core l f x c h = c
+  before-sound lowers core l f x c h = changed-sound core l f _ c h (mod-lt _ (omega arith))
+  before-sound raises core l f x c h = c
+
+  after-sound : (t : Turn) (core : List ℕ) (l : ℕ) (f : Field) (x : ℕ) → SoundCore size core → l < size → SoundCore size (after t size core l f x)
+  after-sound keeps core l f x c h = c
+  after-sound lowers core l f x c h = c
+  after-sound raises core l f x c h = changed-sound core l f _ c h (mod-lt _ (omega arith))
+
+  pointer-lt : (r : Reach) (pc l x : ℕ) → pc < size → l < size → pointerOf r size pc l x < size
+  pointer-lt here pc l x hp hl = hp
+  pointer-lt there pc l x hp hl = hl
+  pointer-lt (through f) pc l x hp hl = ahead-lt size l x (omega arith)
+
+  -- an operand of a sound core: the cells read are sound, and so are those left
+  pub record SoundOperand (o : Operand) : Type 0 where
+    pub core : SoundCore size (o .core)
+    pub pointer : o .pointer < size
+    pub register : Sound size (o .register)
+    pub sound : o .sound ≡ true
+
+  pub operand-sound : (core : List ℕ) (pc mode n : ℕ) → SoundCore size core → pc < size → SoundOperand (operand size core pc mode n)
+  unfolding operand
+  operand-sound core pc mode n c h =
+      let place = ahead size pc n in
+      let l : place < size = ahead-lt size pc n (omega arith) in
+      let t = getD turns mode keeps in
+      let r = getD reaches mode here in
+      let x = number (fieldOf r) (unpacked (getD core place 0)) in
+      let b = before-sound t core place (fieldOf r) x c l in
+      let p = pointer-lt r pc place (used t size x) h l in
+      record {
+        core = after-sound t (before t size core place (fieldOf r) x) place (fieldOf r) x b l;
+        pointer = p;
+        register = fields-at _ b _ p;
+        sound = rw (cell-at core c place l, cell-at _ b _ p);
+      }

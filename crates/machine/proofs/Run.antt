@@ -1,0 +1,150 @@
+-- Laws of a run: it is 01's 'while' over its steps, and keeps what every step keeps.
+-- Assumes nothing.
+use Prim.Native.Nat.{ℕ, zero, suc, _+_, _-_, _≤_, _<_}
+use mathlib.Core.Path.{_≡_, refl, sym, ap, _∙_}
+use mathlib.Core.Bool.{Bool, true, false, cond, not}
+use native.Mathlib.Nat.{add-zero}
+use native.Mathlib.Omega.{arith}
+use lib.Dec.{eqb}
+use lib.ListN.{length}
+use borrow.Author.Tests.{eqb-true}
+use Rattle.machine.specs.declared.Ceiling.{Ceiling}
+use Rattle.machine.specs.State.{Machine, Outcome, accepted, refusal, settle}
+use Rattle.machine.specs.Soundness.{soundHeader}
+use Rattle.machine.specs.Step.{step, executes}
+use Rattle.machine.specs.Run.{joined, plays, ceilingOf, run}
+use Rattle.machine.proofs.Checks.{Refused, refused}
+use Rattle.machine.proofs.Names.{Shape}
+use Rattle.machine.proofs.Soundness.{SoundHeader, header-sound}
+use Rattle.machine.proofs.Step.{step-executed, step-counts, step-lengths, ready, step-sound}
+
+-- an unsound header: 9, and nothing is done
+pub run-unsound : (c : Ceiling) (m : Machine) → soundHeader m ≡ false → run c m ≡ settle (refusal 9 0) m (plays (ceilingOf c - m .header .steps) m)
+unfolding run
+run-unsound c m e = rw e
+
+step-unsound : (m : Machine) (o : Outcome) → soundHeader m ≡ false → step m ≡ settle (refusal 9 0) m o
+unfolding step
+step-unsound m o e = rw e
+
+pub run-refused : (c : Ceiling) (m : Machine) → soundHeader m ≡ false → Refused m (run c m)
+run-refused c m e = rw (run-unsound c m e) (refused 9 0 m (plays (ceilingOf c - m .header .steps) m))
+
+-- a sound one: its steps
+pub run-plays : (c : Ceiling) (m : Machine) → soundHeader m ≡ true → run c m ≡ plays (ceilingOf c - m .header .steps) m
+unfolding run
+run-plays c m e = rw e
+
+module _ (c : Ceiling) (m : Machine) where
+  -- the ceiling is reached: nothing is done
+  pub run-done : soundHeader m ≡ true → ceilingOf c ≤ m .header .steps
+      → run c m ≡ record { machine = m; number = 0; value = 0; writes = 0; steps = 0; pushes = 0 }
+  run-done e h = run-plays c m e ∙ ap (λ (k : ℕ). plays k m) none
+    where
+      none : ceilingOf c - m .header .steps ≡ 0
+      none = omega arith
+
+  abbrev rest : Outcome
+  rest = plays (ceilingOf c - (m .header .steps + 1)) (step m .machine)
+
+  run-suc : soundHeader m ≡ true → m .header .steps < ceilingOf c → run c m ≡ cond (eqb (step m .number) 0) (joined (step m) rest) (step m)
+  run-suc e h = run-plays c m e ∙ ap (λ (k : ℕ). plays k m) one
+    where
+      one : ceilingOf c - m .header .steps ≡ suc (ceilingOf c - (m .header .steps + 1))
+      one = omega arith
+
+  -- the first answer not 0 ends it
+  pub run-stop : m .header .steps < ceilingOf c → eqb (step m .number) 0 ≡ false → run c m ≡ step m
+  run-stop h e = go (soundHeader m) refl
+    where
+      go : (b : Bool) → soundHeader m ≡ b → run c m ≡ step m
+      go true s = run-suc s h ∙ ap (λ (b : Bool). cond b (joined (step m) rest) (step m)) e
+      go false s = run-unsound c m s ∙ sym (step-unsound m (plays (ceilingOf c - m .header .steps) m) s)
+
+-- else it goes on from where the step left the machine
+pub run-on : (c : Ceiling) (m : Machine) → Shape (m .header) → m .header .steps < ceilingOf c → eqb (step m .number) 0 ≡ true
+    → run c m ≡ joined (step m) (run c (step m .machine))
+run-on c m s h e =
+    run-suc c m (header-sound m sound) h
+    ∙ ap (λ (b : Bool). cond b (joined (step m) (rest c m)) (step m)) e
+    ∙ ap (λ (k : ℕ). joined (step m) (plays (ceilingOf c - k) (step m .machine))) (sym steps)
+    ∙ ap (joined (step m)) (sym (run-plays c (step m .machine) (header-sound (step m .machine) (step-sound m sound))))
+  where
+    zero-number : step m .number ≡ 0
+    zero-number = eqb-true _ _ e
+
+    does : executes (step m .number) ≡ true
+    does = rw zero-number
+
+    steps : step m .machine .header .steps ≡ m .header .steps + 1
+    steps = step-executed m does .1 .steps
+
+    sound : SoundHeader m
+    sound = ready m s (step-executed m does .0) .header
+
+-- what every step keeps
+module _ (P : Machine → Type 0) (kept : (m : Machine) → P m → P (step m .machine)) where
+  plays-keeps : (k : ℕ) (m : Machine) → P m → P (plays k m .machine)
+  plays-keeps zero m h = h
+  plays-keeps (suc k) m h = go (eqb (step m .number) 0) (kept m h) (plays-keeps k (step m .machine) (kept m h))
+    where
+      go : (b : Bool) → P (step m .machine) → P (plays k (step m .machine) .machine)
+          → P (cond {A = Outcome} b (joined (step m) (plays k (step m .machine))) (step m) .machine)
+      go true x y = y
+      go false x y = x
+
+  pub run-keeps : (c : Ceiling) (m : Machine) → P m → P (run c m .machine)
+  unfolding run
+  run-keeps c m h = go (soundHeader m)
+    where
+      go : (b : Bool) → P (settle (cond (not b) (refusal 9 0) accepted) m (plays (ceilingOf c - m .header .steps) m) .machine)
+      go true = plays-keeps (ceilingOf c - m .header .steps) m h
+      go false = h
+
+  -- and what holds of 0 and of every step's answer holds of a run's
+  module _ (Q : ℕ → Type 0) (done : Q 0) (answers : (m : Machine) → P m → Q (step m .number)) where
+    plays-answers : (k : ℕ) (m : Machine) → P m → Q (plays k m .number)
+    plays-answers zero m h = done
+    plays-answers (suc k) m h = go (eqb (step m .number) 0) (answers m h) (plays-answers k (step m .machine) (kept m h))
+      where
+        go : (b : Bool) → Q (step m .number) → Q (plays k (step m .machine) .number)
+            → Q (cond {A = Outcome} b (joined (step m) (plays k (step m .machine))) (step m) .number)
+        go true x y = y
+        go false x y = x
+
+    pub run-answers : (c : Ceiling) (m : Machine) → soundHeader m ≡ true → P m → Q (run c m .number)
+    run-answers c m e h = rw (run-plays c m e) (plays-answers (ceilingOf c - m .header .steps) m h)
+
+-- the lengths of core and queue, and the size
+pub run-lengths : (c : Ceiling) (m : Machine)
+    → (length (run c m .machine .core) ≡ length (m .core)) × (length (run c m .machine .queue) ≡ length (m .queue)) × (run c m .machine .header .size ≡ m .header .size)
+run-lengths c m =
+    run-keeps (λ n. (length (n .core) ≡ length (m .core)) × (length (n .queue) ≡ length (m .queue)) × (n .header .size ≡ m .header .size))
+    (λ n h. let s = step-lengths n in (s .0 ∙ h .0, s .1 ∙ h .1, s .2 ∙ h .2)) c m (refl, refl, refl)
+
+-- the steps that a run reports are those by which steps taken rise
+plays-counts : (k : ℕ) (m : Machine) → plays k m .machine .header .steps ≡ m .header .steps + plays k m .steps
+plays-counts zero m = sym (add-zero (m .header .steps))
+plays-counts (suc k) m = go (eqb (step m .number) 0) one (plays-counts k (step m .machine))
+  where
+    one : step m .machine .header .steps ≡ m .header .steps + step m .steps
+    one = step-counts m .0 ∙ ap (λ (k : ℕ). m .header .steps + k) (sym (step-counts m .1))
+
+    go : (b : Bool) → step m .machine .header .steps ≡ m .header .steps + step m .steps
+        → plays k (step m .machine) .machine .header .steps ≡ step m .machine .header .steps + plays k (step m .machine) .steps
+        → cond {A = Outcome} b (joined (step m) (plays k (step m .machine))) (step m) .machine .header .steps
+        ≡ m .header .steps + cond {A = Outcome} b (joined (step m) (plays k (step m .machine))) (step m) .steps
+    go true x y = omega arith
+    go false x y = x
+
+pub run-counts : (c : Ceiling) (m : Machine) → run c m .machine .header .steps ≡ m .header .steps + run c m .steps
+unfolding run
+run-counts c m = go (soundHeader m)
+  where
+    k : ℕ
+    k = ceilingOf c - m .header .steps
+
+    go : (b : Bool) → settle (cond (not b) (refusal 9 0) accepted) m (plays k m) .machine .header .steps
+        ≡ m .header .steps + settle (cond (not b) (refusal 9 0) accepted) m (plays k m) .steps
+    go true = plays-counts k m
+    go false = sym (add-zero (m .header .steps))

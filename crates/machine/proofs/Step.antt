@@ -1,0 +1,221 @@
+-- Laws of a step. For every machine: refusals, steps counted, lengths, writes, pushes. A sound header and a sound core stay sound.
+-- Assumes nothing.
+use Prim.Native.Nat.{ℕ, _+_, _≤_, _<_}
+use mathlib.Core.Path.{_≡_, refl, sym, ap, _∙_}
+use mathlib.Core.Bool.{Bool, true, false, cond, true≢false}
+use mathlib.Core.List.{List}
+use mathlib.Core.Option.{Option, none, some}
+use native.Mathlib.Nat.{add-zero}
+use native.Mathlib.Omega.{arith}
+use lib.Dec.{eqb}
+use lib.ListN.{length, length-set}
+use borrow.Author.Tests.{eqb-false, not-false}
+use Rattle.laws.specs.Lists.{oneIf}
+use Rattle.laws.proofs.Every.{_and_}
+use Rattle.answer.specs.Numbers.{Told, gives}
+use Rattle.load_file.specs.declared.Cell.{Cell}
+use Rattle.machine.specs.State.{Machine, Outcome, Verdict, accepted, refusal, first, settle}
+use Rattle.machine.specs.Names.{isNew}
+use Rattle.machine.specs.Queue.{front, nameOf, pop}
+use Rattle.machine.specs.Execution.{Ending, dat, divisor, Next, ends, goes, splits}
+use Rattle.machine.specs.Instruction.{sceneAt, storeTo, storeWrites}
+use Rattle.machine.specs.Step.{popped, pc, instruction, operandA, operandB, effect, coreAfter, stepWrites, counted, endTold, nextTold, executed, stepChecks, step, executes}
+use Rattle.machine.proofs.Checks.{passes, number-of, Refused, refused}
+use Rattle.machine.proofs.Names.{Shape, Held, held-at}
+use Rattle.machine.proofs.Soundness.{SoundHeader, sound-header, pop-sound, counted-sound, SoundEntry, sound-entry}
+use Rattle.machine.proofs.Pointers.{length-operand, operand-writes, SoundCore, cell-set, fields-at, SoundOperand, operand-sound}
+use Rattle.machine.proofs.Queueing.{queue-only, queued-sound}
+use Rattle.machine.proofs.Execution.{Places, SoundStore, SoundEffect, effect-sound}
+
+-- the core
+length-store : (c : Option Cell) (core : List ℕ) (p : ℕ) → length (storeTo c core p) ≡ length core
+length-store none core p = refl
+length-store (some c) core p = length-set core p _
+
+pub length-core-after : (m : Machine) → length (coreAfter m) ≡ length (m .core)
+unfolding coreAfter effect
+length-core-after m =
+    length-store (effect m .cell) (operandB m .core) (operandB m .pointer)
+    ∙ length-operand (m .header .size) (operandA m .core) (pc m) (instruction m .«b_mode») _
+    ∙ length-operand (m .header .size) (m .core) (pc m) (instruction m .«a_mode») (instruction m .a .0)
+
+-- at most three writes
+store-writes : (c : Option Cell) → storeWrites c ≤ 1
+store-writes none = omega arith
+store-writes (some c) = omega arith
+
+pub step-writes-three : (m : Machine) → stepWrites m ≤ 3
+unfolding stepWrites effect
+step-writes-three m =
+    let a : operandA m .writes ≤ 1 = operand-writes _ _ _ _ _ in
+    let b : operandB m .writes ≤ 1 = operand-writes _ _ _ _ _ in
+    let c : storeWrites (effect m .cell) ≤ 1 = store-writes (effect m .cell) in
+    omega arith
+
+-- of a sound core, at a place of it: both operands read sound cells, the next places are places of it, and it stays sound
+module _ (m : Machine) (c : SoundCore (m .header .size) (m .core)) (h : pc m < m .header .size) where
+  pub operand-a-sound : SoundOperand (m .header .size) (operandA m)
+  operand-a-sound = operand-sound (m .header .size) (m .core) (pc m) (instruction m .«a_mode») (instruction m .a .0) c h
+
+  pub operand-b-sound : SoundOperand (m .header .size) (operandB m)
+  operand-b-sound = operand-sound (m .header .size) (operandA m .core) (pc m) (instruction m .«b_mode») _ (operand-a-sound .core) h
+
+  effect-is-sound : SoundEffect (m .header .size) (effect m)
+  unfolding effect
+  effect-is-sound =
+      effect-sound (sceneAt (m .header .size) (m .core) (pc m)) (operand-a-sound .pointer) (operand-a-sound .register) (operand-b-sound .register)
+      (fields-at (m .header .size) (operandB m .core) (operand-b-sound .core) (operandB m .pointer) (operand-b-sound .pointer))
+      (instruction m .opcode)
+
+  pub next-places : Places (λ p. p < m .header .size) (effect m .next)
+  next-places = effect-is-sound .next
+
+  core-after-sound : SoundCore (m .header .size) (coreAfter m)
+  unfolding coreAfter effect
+  core-after-sound = store (effect m .cell) (effect-is-sound .cell)
+    where
+      store : (x : Option Cell) → SoundStore (m .header .size) x → SoundCore (m .header .size) (storeTo x (operandB m .core) (operandB m .pointer))
+      store none s = operand-b-sound .core
+      store (some x) s = cell-set (m .header .size) (operandB m .core) (operandB m .pointer) x (operand-b-sound .core) s
+
+-- an instruction executed
+pub record Executed (m : Machine) (o : Outcome) : Type 0 where
+  pub core : o .machine .core ≡ coreAfter m
+  pub queue : length (o .machine .queue) ≡ length (m .queue)
+  pub size : o .machine .header .size ≡ m .header .size
+  pub steps : o .machine .header .steps ≡ m .header .steps + 1
+  pub names : (n : List ℕ) → isNew (o .machine .header) n ≡ isNew (m .header) n
+  pub counted : o .steps ≡ 1
+  pub writes : o .writes ≡ stepWrites m
+  pub pushes : o .pushes ≤ 2
+  pub executes : executes (o .number) ≡ true
+
+executes-next : (x : Next) (left place : ℕ) → executes (nextTold x left place .number) ≡ true
+executes-next (goes p) left place = refl
+executes-next (splits p c) left place = refl
+executes-next (ends x) left place = go x (eqb left 0)
+  where
+    go : (x : Ending) (b : Bool) → executes (cond {A = Told} b (endTold x place) (gives 0 0) .number) ≡ true
+    go dat true = refl
+    go dat false = refl
+    go divisor true = refl
+    go divisor false = refl
+
+pub is-executed : (m : Machine) → Executed m (executed m)
+unfolding executed counted pop
+is-executed m =
+    let q = queue-only (effect m .next) (popped m) (counted (coreAfter m) (pop m)) in
+    record {
+      core = q .core;
+      queue = q .queue;
+      size = q .size;
+      steps = q .steps;
+      names = q .names;
+      counted = refl;
+      writes = refl;
+      pushes = q .pushes;
+      executes = executes-next (effect m .next) _ _;
+    }
+
+-- a step is refused, and leaves the machine as it was, or it executes an instruction
+pub step-by-cases : (P : Outcome → Type 0) (m : Machine)
+    → ((n v : ℕ) → first (stepChecks m) ≡ refusal n v → executes n ≡ false → P (settle (refusal n v) m (executed m)))
+    → (first (stepChecks m) ≡ accepted → P (executed m))
+    → P (step m)
+unfolding step
+step-by-cases P m r a = go (first (stepChecks m)) refl
+  where
+    go : (v : Verdict) → first (stepChecks m) ≡ v → P (settle v m (executed m))
+    go accepted e = a e
+    go (refusal n v) e =
+        r n v e (number-of (λ n. executes n ≡ false) (stepChecks m) (refl and refl and refl and refl and refl and refl and refl and tt) n v e)
+
+pub step-refused : (m : Machine) → executes (step m .number) ≡ false → Refused m (step m)
+step-refused m =
+    step-by-cases (λ o. executes (o .number) ≡ false → Refused m o) m (λ n v e x f. refused n v m (executed m))
+    (λ e f. absurd (true≢false (sym (is-executed m .executes) ∙ f)))
+
+pub step-executed : (m : Machine) → executes (step m .number) ≡ true → (first (stepChecks m) ≡ accepted) × Executed m (step m)
+step-executed m =
+    step-by-cases (λ o. executes (o .number) ≡ true → (first (stepChecks m) ≡ accepted) × Executed m o) m
+    (λ n v e x t. absurd (true≢false (sym t ∙ x))) (λ e t. (e, is-executed m))
+
+-- steps rise by one exactly when an instruction is executed, and the step reports it
+pub step-counts : (m : Machine)
+    → (step m .machine .header .steps ≡ m .header .steps + oneIf (executes (step m .number))) × (step m .steps ≡ oneIf (executes (step m .number)))
+step-counts m =
+    step-by-cases (λ o. (o .machine .header .steps ≡ m .header .steps + oneIf (executes (o .number))) × (o .steps ≡ oneIf (executes (o .number)))) m
+    (λ n v e x. (rw (x, add-zero (m .header .steps)), rw x))
+    (λ e. let i = is-executed m in (rw (i .executes) (i .steps), rw (i .executes) (i .counted)))
+
+-- the lengths of core and queue, and the size
+pub step-lengths : (m : Machine)
+    → (length (step m .machine .core) ≡ length (m .core)) × (length (step m .machine .queue) ≡ length (m .queue)) × (step m .machine .header .size ≡ m .header .size)
+step-lengths m =
+    step-by-cases (λ o. (length (o .machine .core) ≡ length (m .core)) × (length (o .machine .queue) ≡ length (m .queue)) × (o .machine .header .size ≡ m .header .size)) m
+    (λ n v e x. (refl, refl, refl))
+    (λ e. let i = is-executed m in (ap length (i .core) ∙ length-core-after m, i .queue, i .size))
+
+-- a step that passed its checks: the queue is not empty, and header and front entry are sound
+pub record Ready (m : Machine) : Type 0 where
+  pub some : 0 < m .header .length
+  pub header : SoundHeader m
+  pub entry : SoundEntry (m .header) (front m)
+
+pub nonzero : {k : ℕ} → eqb k 0 ≡ false → 0 < k
+nonzero {k} h = let f : k ≡ 0 → ⊥ = eqb-false k 0 h in omega arith
+
+pub step-some : (m : Machine) → first (stepChecks m) ≡ accepted → 0 < m .header .length
+step-some m e = nonzero (passes (stepChecks m) e .1 .0)
+
+pub ready : (m : Machine) → Shape (m .header) → first (stepChecks m) ≡ accepted → Ready m
+ready m s e =
+    let p = passes (stepChecks m) e in
+    record {
+      some = nonzero (p .1 .0);
+      header = sound-header m s (not-false _ (p .0));
+      entry = sound-entry (m .header) (front m) (not-false _ (p .1 .1 .0));
+    }
+
+-- popped, the step counted, and nothing pushed yet
+abbrev pub counting : Machine → Machine
+counting m = counted (coreAfter m) (pop m)
+
+module _ (m : Machine) (r : Ready m) where
+  -- the front entry's name is held
+  pub front-held : Held (m .header) (popped m .name) (nameOf m (front m))
+  front-held = held-at (m .header) (popped m .name) (r .header .unlike) (r .entry .held)
+
+  pop-size : length (coreAfter m) ≡ pop m .header .size
+  unfolding pop
+  pop-size = length-core-after m ∙ r .header .core
+
+  pub counting-sound : SoundHeader (counting m)
+  counting-sound = counted-sound (pop m) (pop-sound m (r .header) (r .some) (r .entry .held) (r .entry .count)) (coreAfter m) pop-size
+
+  pub counting-room : counting m .header .length < length (counting m .queue)
+  unfolding counted pop
+  counting-room = omega (arith, r .some, r .header .limit)
+
+  pub counting-held : popped m .name < counting m .header .held
+  unfolding counted pop
+  counting-held = r .entry .held
+
+-- a sound header stays sound
+pub executed-sound : (m : Machine) → Ready m → SoundHeader (executed m .machine)
+unfolding executed
+executed-sound m r =
+    queued-sound (effect m .next) (popped m) (counting m) (counting-sound m r) (counting-held m r) (counting-room m r)
+
+pub step-sound : (m : Machine) → SoundHeader m → SoundHeader (step m .machine)
+step-sound m s = step-by-cases (λ o. SoundHeader (o .machine)) m (λ n v e x. s) (λ e. executed-sound m (ready m (s .shape) e))
+
+-- a sound core stays sound
+pub executed-core-sound : (m : Machine) → SoundCore (m .header .size) (m .core) → pc m < m .header .size
+    → SoundCore (m .header .size) (executed m .machine .core)
+executed-core-sound m c h = rw (is-executed m .core) (core-after-sound m c h)
+
+pub step-core-sound : (m : Machine) → SoundCore (m .header .size) (m .core) → SoundCore (m .header .size) (step m .machine .core)
+step-core-sound m c =
+    step-by-cases (λ o. SoundCore (m .header .size) (o .machine .core)) m (λ n v e x. c)
+    (λ e. executed-core-sound m c (sound-entry (m .header) (front m) (not-false _ (passes (stepChecks m) e .1 .1 .0)) .place))
