@@ -1,13 +1,13 @@
 -- Lists, part by part: what a loop over one has left to do.
 -- Assumes nothing.
-use mathlib.Core.Path.{_≡_, refl, ap, _∙_}
-use mathlib.Core.List.{List, [], _∷_}
+use mathlib.Core.Path.{_≡_, refl, sym, ap, ap₂, _∙_}
+use mathlib.Core.List.{List, [], _∷_, _++_, append-nil}
 use Prim.Native.Nat.{ℕ, suc, _+_, _-_, _≤_, _<_}
-use native.Mathlib.Nat.{le-trans, le-suc, le-of-eq}
+use native.Mathlib.Nat.{le-trans, le-suc, le-of-eq, zero-add, add-zero, add-suc, suc-add}
 use native.Mathlib.Numerals.{add-one}
 use native.Mathlib.Omega.{arith}
-use lib.ListN.{length, getD, take, drop, length-drop}
-use lib.Seq.{drop-cons, take-all, set-out, sets}
+use lib.ListN.{length, getD, take, drop, set, length-drop, take-append-drop, drop-of-length-le}
+use lib.Seq.{drop-cons, take-all, length-take-le, set-out, sets}
 
 -- a loop that counts up to n has one thing less to do
 pub fall : (n i : ℕ) → i < n → n - i ≡ suc (n - (i + 1))
@@ -29,3 +29,22 @@ module _ {A : Type 0} where
   pub sets-past : (l : List A) (i : ℕ) (vs : List A) → length l ≤ i → sets l i vs ≡ l
   sets-past l i [] h = refl
   sets-past l i (v ∷ vs) h = ap (λ (k : List A). sets k (suc i) vs) (set-out l i v h) ∙ sets-past l (suc i) vs (le-trans h (le-suc i))
+
+  -- stores in the second of two lists
+  set-second : (xs ys : List A) (j : ℕ) (v : A) → set (xs ++ ys) (length xs + j) v ≡ xs ++ set ys j v
+  set-second [] ys j v = rw zero-add
+  set-second (x ∷ xs) ys j v = rw (suc-add (length xs) j) (ap (λ (l : List A). x ∷ l) (set-second xs ys j v))
+
+  sets-second : (xs ys vs : List A) (j : ℕ) → sets (xs ++ ys) (length xs + j) vs ≡ xs ++ sets ys j vs
+  sets-second xs ys [] j = refl
+  sets-second xs ys (v ∷ vs) j =
+      ap₂ (λ (l : List A) (k : ℕ). sets l k vs) (set-second xs ys j v) (sym (add-suc (length xs) j)) ∙ sets-second xs (set ys j v) vs (suc j)
+
+  -- stores from the start of a part that goes to the end, put back
+  pub part-written : (l vs : List A) (i : ℕ) → i ≤ length l
+      → take i l ++ (sets (take (length l - i) (drop i l)) 0 vs ++ drop (length l - i) (drop i l)) ≡ sets l i vs
+  part-written l vs i h =
+      ap₂ (λ (m n : List A). take i l ++ (sets m 0 vs ++ n)) (to-end l i) (drop-of-length-le (drop i l) {i = length l - i} (le-of-eq (length-drop i l)))
+      ∙ ap (λ (m : List A). take i l ++ m) (append-nil (sets (drop i l) 0 vs))
+      ∙ sym (sets-second (take i l) (drop i l) vs 0)
+      ∙ ap₂ (λ (m : List A) (k : ℕ). sets m k vs) (take-append-drop i l) (add-zero (length (take i l)) ∙ length-take-le i l h)

@@ -3,6 +3,7 @@
 use mathlib.Core.Path.{_≡_, refl, sym, ap, _∙_}
 use mathlib.Core.Bool.{Bool, true, false, _&&_}
 use mathlib.Core.Logic.{⊎-elim}
+use mathlib.Core.List.{List, []}
 use Prim.Native.Nat.{ℕ, zero, suc, _+_, _≤_, _<_, zero-le}
 use native.Mathlib.Nat.{zero-add, eq-or-lt-of-le}
 use native.Mathlib.Omega.{arith}
@@ -17,7 +18,7 @@ use Rattle.machine.specs.declared.Header.{Header}
 use Rattle.machine.specs.State.{Machine}
 use Rattle.machine.specs.Names.{nameAt, names}
 use Rattle.machine.specs.Soundness.{soundHeader}
-use Rattle.process.specs.Parts.{validLength}
+use Rattle.process.specs.Parts.{headerOf, machineOf, validLength}
 
 -- the tests of numbers, which come first
 abbrev pub numbers : Machine → Bool
@@ -86,3 +87,10 @@ module _ (m : Machine) where
 
         pub by-total : {t : ℕ} → distinct (names (m .header)) ≡ true → t ≡ total (take (m .header .held) (m .header .counts)) → eqb t (m .header .length) ≡ soundHeader m
         by-total e s = sym (header-is ∙ simp (n, l, sym bytes ∙ v, e) (ap (λ (k : ℕ). eqb k (m .header .length)) (sym s)))
+
+-- the test looks at these parts of a header alone
+pub by-parts : (core queue : List ℕ) (h : Header)
+    → soundHeader (machineOf core queue (headerOf (h .size) (h .head) (h .length) (h .held) (h .names) (h .lengths) (h .counts) []))
+    ≡ soundHeader (machineOf core queue h)
+unfolding soundHeader
+by-parts core queue h = refl

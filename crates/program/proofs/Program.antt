@@ -1,13 +1,14 @@
 -- Laws of a body: it becomes no more words than it has instructions, and they are sound where no instruction is faulty.
 -- Assumes nothing.
-use Prim.Native.Nat.{ℕ, zero, suc, _/_, _≤_, _<_}
-use native.Mathlib.Nat.{le-of-suc-le-suc, not-suc-le-zero}
-use mathlib.Core.Path.{_≡_, refl, ap}
+use Prim.Native.Nat.{ℕ, zero, suc, _+_, _-_, _*_, _/_, _≤_, _<_}
+use native.Mathlib.Nat.{sub-zero, le-of-suc-le-suc, not-suc-le-zero}
+use mathlib.Core.Path.{_≡_, refl, sym, ap, ap₂, _∙_}
 use mathlib.Core.Bool.{true, false, not}
 use mathlib.Core.List.{List, [], _∷_, map}
 use native.Mathlib.Omega.{arith}
 use lib.Dec.{eqb, leb, ltb}
-use lib.ListN.{length, drop, length-map}
+use lib.ListN.{length, drop, length-drop, length-map}
+use lib.Seq.{drop-drop}
 use borrow.Author.Tests.{leb-true, ltb-false, not-false}
 use Rattle.laws.proofs.Tests.{holds}
 use Rattle.laws.proofs.Every.{Every}
@@ -24,10 +25,35 @@ length-split : (n : ℕ) (body : List ℕ) → length (split n body) ≡ n
 length-split zero body = refl
 length-split (suc n) body = ap suc (length-split n (drop 12 body))
 
-pub cells-le : (size : ℕ) (body : List ℕ) → length (cells size body) ≤ instructions body
+pub length-cells : (size : ℕ) (body : List ℕ) → length (cells size body) ≡ length body / 12
 unfolding cells
-cells-le size body =
-    rw (length-map (split (length body / 12) body) (λ x. packed (cellOf size x)), length-split (length body / 12) body) (omega arith)
+length-cells size body =
+    length-map (split (length body / 12) body) (λ x. packed (cellOf size x)) ∙ length-split (length body / 12) body
+
+pub cells-le : (size : ℕ) (body : List ℕ) → length (cells size body) ≤ instructions body
+cells-le size body = rw (length-cells size body) (omega arith)
+
+-- the words of a body from an instruction on
+drop-split : (i n : ℕ) (body : List ℕ) → i ≤ n → drop i (split n body) ≡ split (n - i) (drop (12 * i) body)
+drop-split zero n body l = rw sub-zero
+drop-split (suc i) zero body l = absurd (not-suc-le-zero l)
+drop-split (suc i) (suc n) body l =
+    drop-split i n (drop 12 body) (le-of-suc-le-suc l)
+    ∙ ap₂ split (let e : n - i ≡ suc n - suc i = omega arith in e) (drop-drop (12 * i) 12 body ∙ ap (λ (k : ℕ). drop k body) (let e : 12 + 12 * i ≡ 12 * suc i = omega arith in e))
+
+drop-map : (f : List ℕ → ℕ) (i : ℕ) (xs : List (List ℕ)) → drop i (map f xs) ≡ map f (drop i xs)
+drop-map f zero xs = refl
+drop-map f (suc i) [] = refl
+drop-map f (suc i) (x ∷ xs) = drop-map f i xs
+
+pub cells-from : (size : ℕ) (body : List ℕ) (i : ℕ) → i ≤ length body / 12 → cells size (drop (12 * i) body) ≡ drop i (cells size body)
+unfolding cells
+cells-from size body i l =
+    ap (λ (n : ℕ). map (λ x. packed (cellOf size x)) (split n (drop (12 * i) body))) left
+    ∙ sym (drop-map (λ x. packed (cellOf size x)) i (split (length body / 12) body) ∙ ap (map (λ x. packed (cellOf size x))) (drop-split i (length body / 12) body l))
+  where
+    left : length (drop (12 * i) body) / 12 ≡ length body / 12 - i
+    left = rw (length-drop (12 * i) body) (omega arith)
 
 -- what holds of the first n instructions holds of fewer
 fewer : (P : List ℕ → Type 0) (k n : ℕ) (body : List ℕ) → k ≤ n → Every P (split n body) → Every P (split k body)

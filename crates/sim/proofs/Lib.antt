@@ -1,2 +1,3 @@
 pub mod Memories
 pub mod FreshMachine
+pub mod CellReading

@@ -3,16 +3,21 @@
 use mathlib.Core.Path.{_≡_, refl, sym, ap, ap₂, _∙_}
 use mathlib.Core.List.{List, [], _∷_, _++_, append-nil}
 use mathlib.Core.Logic.{⊎-elim}
-use Prim.Native.Nat.{ℕ, zero, suc, _+_, _-_, _%_, _≤_, _<_, zero-le}
+use Prim.Native.Nat.{ℕ, suc, _+_, _-_, _*_, _/_, _≤_, _<_, zero-le}
 use native.Mathlib.Nat.{sub-zero, add-zero, zero-add, mod-self, eq-or-lt-of-le, le-of-suc-le-suc}
 use native.Mathlib.Numerals.{add-one}
 use native.Mathlib.Omega.{arith}
 use lib.ListN.{length, getD, take, drop, set, replicate, length-set, length-replicate, drop-of-length-le}
 use lib.Seq.{sets, sets-eq}
 use Rattle.laws.proofs.Modulo.{mod-small}
-use Rattle.laws.proofs.Lists.{fall, done, sets-past}
+use borrow.Author.Tests.{le-leb, lt-leb, lt-ltb, le-ltb}
+use Rattle.laws.proofs.Tests.{and-false}
+use Rattle.laws.proofs.Lists.{fall, done, sets-past, to-end, part-written}
 use Rattle.load_file.specs.Offset.{ahead}
+use Rattle.program.specs.Program.{cells}
+use Rattle.program.proofs.Program.{length-cells, cells-from}
 use Rattle.machine.specs.Load.{placed}
+use Rattle.sim.specs.Given.{placedIf}
 
 -- a store of as many words as there are is those words
 whole : (l vs : List ℕ) → length vs ≡ length l → vs ≡ sets l 0 vs
@@ -79,3 +84,40 @@ placed-is core (w ∷ ws) p h l =
         shorter g =
             ap (λ (k : ℕ). drop (k - suc p) ws) (length-set core p w)
             ∙ ap (λ (k : ℕ). drop k (w ∷ ws)) (let e : suc (length core - suc p) ≡ length core - p = omega arith in e)
+
+-- a body placed by two stores of as many words as there is room for, or not placed
+module _ (core : List ℕ) (place size : ℕ) (body : List ℕ) where
+  pub no-place : length core ≤ place → core ≡ placedIf core place (cells size body)
+  unfolding placedIf
+  no-place h = simp (le-ltb _ _ h)
+
+  pub too-long : length core < length body / 12 → core ≡ placedIf core place (cells size body)
+  unfolding placedIf
+  too-long h = simp (lt-leb (length (cells size body)) (length core) (rw (length-cells size body) h), and-false)
+
+  module _ (p : place < length core) (l : length body / 12 ≤ length core) where
+    is : placedIf core place (cells size body) ≡ sets (sets core place (cells size body)) 0 (drop (length core - place) (cells size body))
+    unfolding placedIf
+    is =
+        simp (lt-ltb place (length core) p, le-leb (length (cells size body)) (length core) (rw (length-cells size body) l))
+        (placed-is core (cells size body) place p (rw (length-cells size body) l))
+
+    pub first-written : {part : List ℕ} → part ≡ sets (take (length core - place) (drop place core)) 0 (cells size body)
+        → take place core ++ (part ++ drop (length core - place) (drop place core)) ≡ sets core place (cells size body)
+    first-written e = rw e (part-written core (cells size body) place (omega arith))
+
+    pub in-one : {part : List ℕ} → length body / 12 ≤ length core - place → part ≡ sets (take (length core - place) (drop place core)) 0 (cells size body)
+        → take place core ++ (part ++ drop (length core - place) (drop place core)) ≡ placedIf core place (cells size body)
+    in-one g e =
+        first-written e
+        ∙ sym (is ∙ ap (sets (sets core place (cells size body)) 0) (drop-of-length-le (cells size body) {i = length core - place} (rw (length-cells size body) g)))
+
+    pub in-two : {after part : List ℕ} → length core - place < length body / 12 → part ≡ sets (take (length core - place) (drop place core)) 0 (cells size body)
+        → after ≡ sets (take place core ++ (part ++ drop (length core - place) (drop place core))) 0
+          (cells size (take (length body - 12 * (length core - place)) (drop (12 * (length core - place)) body)))
+        → after ≡ placedIf core place (cells size body)
+    in-two g e f =
+        f
+        ∙ ap₂ (λ (c ws : List ℕ). sets c 0 ws) (first-written e)
+        (ap (cells size) (to-end body (12 * (length core - place))) ∙ cells-from size body (length core - place) (omega arith))
+        ∙ sym is

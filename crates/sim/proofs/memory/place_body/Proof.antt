@@ -3,12 +3,13 @@
 use borrow.Author.Needs.{needs}
 use Rattle.sim.proofs.memory.place_body.Statement.{statement}
 use Rattle.sim.proofs.memory.place_body.Tie as tie
+use Rattle.sim.proofs.Memories.{no-place, too-long, in-one, in-two}
 
 returns : tie.Need-returns
-returns c = search needs
+returns c = no-place (c .before .before .before .args .core .now) (c .before .before .before .args .place) (c .before .before .before .args .size) (c .before .before .before .args .body .now) (c .if1 .taken)
 
 returns-2 : tie.Need-returns-2
-returns-2 c = search needs
+returns-2 c = too-long (c .before .before .before .before .args .core .now) (c .before .before .before .before .args .place) (c .before .before .before .before .args .size) (c .before .before .before .before .args .body .now) (c .if2 .taken)
 
 sub-room : tie.Need-sub-room
 sub-room c = search needs
@@ -47,13 +48,13 @@ same-length : tie.Need-same-length
 same-length c = search needs
 
 returns-3 : tie.Need-returns-3
-returns-3 c = search needs
+returns-3 c = in-two (c .before .before .before .before .before .before .before .before .before .before .before .before .before .before .args .core .now) (c .before .before .before .before .before .before .before .before .before .before .before .before .before .before .args .place) (c .before .before .before .before .before .before .before .before .before .before .before .before .before .before .args .size) (c .before .before .before .before .before .before .before .before .before .before .before .before .before .before .args .body .now) (c .before .before .before .before .before .before .before .before .before .before .before .if1 .left) (c .before .before .before .before .before .before .before .before .before .before .if2 .left) (c .before .before .before .before .before .if3 .taken) (c .before .before .before .before .before .before .before .before .write-cells .ensures) (c .before .before .write-cells2 .ensures)
 
 same-length-2 : tie.Need-same-length-2
 same-length-2 c = search needs
 
 returns-4 : tie.Need-returns-4
-returns-4 c = search needs
+returns-4 c = in-one (c .before .before .before .before .before .before .before .before .before .args .core .now) (c .before .before .before .before .before .before .before .before .before .args .place) (c .before .before .before .before .before .before .before .before .before .args .size) (c .before .before .before .before .before .before .before .before .before .args .body .now) (c .before .before .before .before .before .before .if1 .left) (c .before .before .before .before .before .if2 .left) (c .if3 .left) (c .before .before .before .write-cells .ensures)
 
 pub place-body-spec : {M : Type 1} → statement M
 place-body-spec =
