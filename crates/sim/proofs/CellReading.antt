@@ -1,14 +1,13 @@
 -- What cell reading gives.
 -- Assumes nothing.
-use mathlib.Core.Path.{_≡_, refl, sym, ap, _∙_}
-use mathlib.Core.Bool.{true, false, not}
-use Prim.Native.Nat.{ℕ, _<_, _≤_}
+use mathlib.Core.Path.{_≡_, sym, ap, _∙_}
+use mathlib.Core.Bool.{true, false}
+use Prim.Native.Nat.{ℕ, _<_}
 use lib.Dec.{leb}
 use lib.IntN.{ℤ}
 use lib.ListN.{length, getD}
 use borrow.Author.Tests.{leb-true, eqb-true}
-use Rattle.answer.specs.declared.Answer.the-variants.{Done, UnsoundRecord}
-use Rattle.answer.specs.Numbers.{told, gives}
+use Rattle.answer.specs.Numbers.{gives}
 use Rattle.laws.proofs.Tests.{both, holds}
 use Rattle.load_file.specs.declared.Cell.{Cell}
 use Rattle.load_file.specs.Offset.{euclid}

@@ -1,3 +1,4 @@
 pub mod Memories
 pub mod FreshMachine
 pub mod CellReading
+pub mod Loading

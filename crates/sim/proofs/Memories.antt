@@ -4,10 +4,10 @@ use mathlib.Core.Path.{_≡_, refl, sym, ap, ap₂, _∙_}
 use mathlib.Core.List.{List, [], _∷_, _++_, append-nil}
 use mathlib.Core.Logic.{⊎-elim}
 use Prim.Native.Nat.{ℕ, suc, _+_, _-_, _*_, _/_, _≤_, _<_, zero-le}
-use native.Mathlib.Nat.{sub-zero, add-zero, zero-add, mod-self, eq-or-lt-of-le, le-of-suc-le-suc}
+use native.Mathlib.Nat.{sub-zero, mod-self, eq-or-lt-of-le}
 use native.Mathlib.Numerals.{add-one}
 use native.Mathlib.Omega.{arith}
-use lib.ListN.{length, getD, take, drop, set, replicate, length-set, length-replicate, drop-of-length-le}
+use lib.ListN.{length, take, drop, set, replicate, length-set, length-replicate, drop-of-length-le}
 use lib.Seq.{sets, sets-eq}
 use Rattle.laws.proofs.Modulo.{mod-small}
 use borrow.Author.Tests.{le-leb, lt-leb, lt-ltb, le-ltb}

@@ -17,6 +17,7 @@ use machine::Header;
 use process::soundness::sound_header;
 
 mod memory;
+pub mod warrior;
 
 // An answer, its writes, and the header.
 pub struct Outcome {

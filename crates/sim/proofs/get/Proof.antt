@@ -3,7 +3,7 @@
 use borrow.Author.Needs.{needs}
 use Rattle.sim.proofs.get.Statement.{statement}
 use Rattle.sim.proofs.get.Tie as tie
-use mathlib.Core.Path.{_∙_, sym, ap}
+use mathlib.Core.Path.{_∙_, ap}
 use lib.IntN.{ℤ}
 use mir.Facts.{toZ-ofZ}
 use Rattle.laws.proofs.Tests.{refuted, upheld}

@@ -1,0 +1,188 @@
+// A warrior loaded into the core (01, 'Load').
+ghost use mathlib.Core.Path.{_≡_};
+ghost use mathlib.Core.Bool.{cond, _&&_};
+ghost use Prim.Native.Nat.{_<_};
+ghost use lib.Dec.{eqb, ltb};
+ghost use lib.ListN.{length, getD};
+ghost use Rattle.machine.specs.Load as spec;
+ghost use Rattle.process.specs.Parts.{headerOf, machineOf, registerIf};
+ghost use Rattle.sim.specs.Given.{given, givenBy, Accepted};
+
+use crate::memory::place_body;
+use crate::Outcome;
+use answer::Answer;
+use load_file::offset::add;
+use load_file::offset::Absolute;
+use load_file::offset::Relative;
+use machine::Header;
+use process::names::find;
+use process::names::register;
+use process::queue::start;
+use process::queue::Ring;
+use process::soundness::sound_header;
+use program::len;
+use program::lowest_fault;
+use program::metadata::valid_name;
+
+// The origin, 65,535 for none, meaning 0.
+fn origin_of(origin: u16) -> u32
+    ensures { λ r. ⌜ r ≡ spec.originOf origin ⌝ }
+{
+    if origin == 65535 {
+        return 0;
+    }
+    origin as u32
+}
+
+// Registers a name whose index is the next free slot. Gives how many names are then held.
+fn registered(
+    names: &mut [u8; 512],
+    lengths: &mut [u8; 16],
+    counts: &mut [u32; 16],
+    threads: &mut [u32; 16],
+    held: u32,
+    i: u32,
+    name: &[u8],
+) -> u32
+    ensures { λ r. ⌜ headerOf 0 0 0 r (now (names .exit)) (now (lengths .exit)) (now (counts .exit)) (now (threads .exit))
+        ≡ cond (eqb i held) (registerIf (headerOf 0 0 0 held (now (names .entry)) (now (lengths .entry)) (now (counts .entry)) (now (threads .entry))) (now (name .entry)))
+        (headerOf 0 0 0 held (now (names .entry)) (now (lengths .entry)) (now (counts .entry)) (now (threads .entry))) ⌝ }
+{
+    if i == held {
+        return register(names, lengths, counts, threads, held, name);
+    }
+    held
+}
+
+// Whether a held name has no thread number left.
+fn exhausted(threads: &[u32; 16], i: u32, held: u32) -> bool
+    requires { ⌜ i < 16 ⌝ }
+    ensures { λ r. ⌜ r ≡ (ltb i held && eqb (getD (now (threads .entry)) i 0) 4294967295) ⌝ }
+{
+    let slot = i as usize;
+    let thread = threads[slot];
+    (i < held) & (thread == 4294967295)
+}
+
+// A refusal: nothing was written, and the header is as it was.
+fn refuse(answer: Answer, h: Header) -> Outcome
+    ensures { λ r. ⌜ (r .answer ≡ answer) × (r .writes ≡ 0) × (r .header ≡ h) ⌝ }
+{
+    Outcome {
+        answer,
+        writes: 0,
+        header: h,
+    }
+}
+
+// Loads a warrior that passed the checks, under the name with the index i.
+fn accept(
+    core: &mut [u64],
+    queue: &mut [u64],
+    h: Header,
+    i: u32,
+    name: &[u8],
+    body: &[u8],
+    origin: u16,
+    place: u32,
+) -> Outcome
+    requires { ⌜ Accepted (machineOf (now core) (now queue) h) (now name) (now body) place i ⌝ }
+    ensures { λ r. ⌜ given (r .answer) (r .writes) (now (core .exit)) (now (queue .exit)) (r .header)
+        ≡ givenBy (spec.loaded (machineOf (now (core .entry)) (now (queue .entry)) h) (now (name .entry)) (now (body .entry)) origin place) ⌝ }
+{
+    let mut names = h.names;
+    let mut lengths = h.lengths;
+    let mut counts = h.counts;
+    let mut threads = h.threads;
+    let held = registered(&mut names, &mut lengths, &mut counts, &mut threads, h.held, i, name);
+    place_body(core, place as usize, body, h.size);
+    let at = add(Absolute(place), Relative(origin_of(origin)), h.size);
+    let before = Ring {
+        head: h.head,
+        length: h.length,
+    };
+    let slot = i as u8;
+    let ring = start(queue, before, &mut counts, &mut threads, at, slot);
+    let header = Header {
+        size: h.size,
+        head: ring.head,
+        length: ring.length,
+        steps: h.steps,
+        held,
+        names,
+        lengths,
+        counts,
+        threads,
+    };
+    Outcome {
+        answer: Answer::Done,
+        writes: len(body),
+        header,
+    }
+}
+
+// Loads a warrior under a name that is not empty.
+fn load_named(
+    core: &mut [u64],
+    queue: &mut [u64],
+    h: Header,
+    name: &[u8],
+    body: &[u8],
+    origin: u16,
+    place: u32,
+) -> Outcome
+    requires { ⌜ 0 < length (now name) ⌝ }
+    ensures { λ r. ⌜ given (r .answer) (r .writes) (now (core .exit)) (now (queue .exit)) (r .header)
+        ≡ givenBy (spec.load (machineOf (now (core .entry)) (now (queue .entry)) h) (now (name .entry)) (now (body .entry)) origin place) ⌝ }
+{
+    if !sound_header(
+        core, queue, h.size, h.head, h.length, h.held, &h.names, &h.lengths, &h.counts,
+    ) {
+        return refuse(Answer::UnsoundRecord, h);
+    }
+    let count = len(body);
+    if (h.size as usize) < count {
+        return refuse(Answer::WarriorTooLong, h);
+    }
+    let fault = lowest_fault(body);
+    if fault < count {
+        return refuse(Answer::InvalidCode(fault), h);
+    }
+    if !valid_name(name) {
+        return refuse(Answer::InvalidNameOrPlace, h);
+    }
+    if h.size <= place {
+        return refuse(Answer::InvalidNameOrPlace, h);
+    }
+    if queue.len() <= h.length as usize {
+        return refuse(Answer::NoRoom, h);
+    }
+    let i = find(&h.names, &h.lengths, h.held, name);
+    if 16 <= i {
+        return refuse(Answer::NoRoom, h);
+    }
+    if exhausted(&h.threads, i, h.held) {
+        return refuse(Answer::NumbersExhausted, h);
+    }
+    accept(core, queue, h, i, name, body, origin, place)
+}
+
+// Loads a warrior; an empty name is Warrior0.
+pub fn load(
+    core: &mut [u64],
+    queue: &mut [u64],
+    h: Header,
+    name: &[u8],
+    body: &[u8],
+    origin: u16,
+    place: u32,
+) -> Outcome
+    ensures { λ r. ⌜ given (r .answer) (r .writes) (now (core .exit)) (now (queue .exit)) (r .header)
+        ≡ givenBy (spec.load (machineOf (now (core .entry)) (now (queue .entry)) h) (now (name .entry)) (now (body .entry)) origin place) ⌝ }
+{
+    if name.len() == 0 {
+        let warrior0 = *b"Warrior0";
+        return load_named(core, queue, h, &warrior0[..], body, origin, place);
+    }
+    load_named(core, queue, h, name, body, origin, place)
+}
