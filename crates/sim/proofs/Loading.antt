@@ -105,9 +105,10 @@ module _ (m : Machine) (name body : List ℕ) (place i : ℕ) (a : Accepted m na
           → (getD (cond b (register (m .header) name) (m .header) .counts) i 0 ≡ 4294967295 → ⊥)
           × (getD (cond b (register (m .header) name) (m .header) .threads) i 0 ≡ 4294967295 → ⊥)
       go true e =
-          let k : i ≡ m .header .held = eqb-true i (m .header .held) e in
-          (λ f. let z : _≡_ {A = ℕ} 0 4294967295 = sym (zero-there (m .header .counts) i) ∙ ap (λ (j : ℕ). getD (set (m .header .counts) j 0) i 0) k ∙ f in omega arith,
-           λ f. let z : _≡_ {A = ℕ} 0 4294967295 = sym (zero-there (m .header .threads) i) ∙ ap (λ (j : ℕ). getD (set (m .header .threads) j 0) i 0) k ∙ f in omega arith)
+          let k : i ≡ m .header .held = eqb-true i (m .header .held) e in (
+            λ f. let z : _≡_ {A = ℕ} 0 4294967295 = sym (zero-there (m .header .counts) i) ∙ ap (λ (j : ℕ). getD (set (m .header .counts) j 0) i 0) k ∙ f in omega arith,
+            λ f. let z : _≡_ {A = ℕ} 0 4294967295 = sym (zero-there (m .header .threads) i) ∙ ap (λ (j : ℕ). getD (set (m .header .threads) j 0) i 0) k ∙ f in omega arith,
+          )
       go false e =
           let n : i ≡ m .header .held → ⊥ = eqb-false i (m .header .held) e in
           let l : i ≤ m .header .held = index-le in
@@ -116,9 +117,10 @@ module _ (m : Machine) (name body : List ℕ) (place i : ℕ) (a : Accepted m na
           let s : total (take (m .header .held) (m .header .counts)) ≡ m .header .length = eqb-true _ _ (t .1 .1 .1 .1 .1 .1 .1 .1 .1 .0) in
           let q : m .header .length ≤ length (m .queue) = leb-true _ _ (t .1 .1 .1 .0) in
           let v : length (m .queue) ≤ 65535 = leb-true (length (m .queue)) 65535 (both (leb 1 (length (m .queue))) (leb (length (m .queue)) 65535) (t .1 .1 .0) .1) in
-          let k : getD (m .header .counts) i 0 ≤ total (take (m .header .held) (m .header .counts)) = count-le (m .header .counts) (m .header .held) i below in
-          (λ f. omega arith,
-           λ f. true≢false (sym (simp (lt-ltb i (m .header .held) below, eq-eqb (getD (m .header .threads) i 0) 4294967295 f)) ∙ a .number))
+          let k : getD (m .header .counts) i 0 ≤ total (take (m .header .held) (m .header .counts)) = count-le (m .header .counts) (m .header .held) i below in (
+            λ f. omega arith,
+            λ f. true≢false (sym (simp (lt-ltb i (m .header .held) below, eq-eqb (getD (m .header .threads) i 0) 4294967295 f)) ∙ a .number),
+          )
 
   -- so the process is started
   starts : (p : ℕ) (counts threads : List ℕ) → counts ≡ registered (m .header) name .counts → threads ≡ registered (m .header) name .threads
@@ -150,12 +152,12 @@ module _ (m : Machine) (name body : List ℕ) (place i : ℕ) (a : Accepted m na
   assembled : (at : ℕ) (counts threads : List ℕ) {core queue names lengths counts′ threads′ : List ℕ} {held head len count : ℕ}
       → queueOf queue head len counts′ threads′ ≡ started at i (queueOf (m .queue) (m .header .head) (m .header .length) counts threads)
       → given Done count core queue
-        (record { size = m .header .size; head = head; length = len; steps = m .header .steps; held = held; names = names; lengths = lengths; counts = counts′; threads = threads′ })
+      (record { size = m .header .size; head = head; length = len; steps = m .header .steps; held = held; names = names; lengths = lengths; counts = counts′; threads = threads′ })
       ≡ started-with i count core at (named (m .header) (headerOf 0 0 0 held names lengths counts threads))
   unfolding started push numbered started-with
   assembled at cs ts {core = core} {names = ns} {lengths = ls} {held = hd} {count = count} e =
       ap (λ (q : Machine). given Done count core (q .queue)
-        (record { size = m .header .size; head = q .header .head; length = q .header .length; steps = m .header .steps; held = hd; names = ns; lengths = ls; counts = q .header .counts; threads = q .header .threads })) e
+      (record { size = m .header .size; head = q .header .head; length = q .header .length; steps = m .header .steps; held = hd; names = ns; lengths = ls; counts = q .header .counts; threads = q .header .threads })) e
 
   -- a warrior that passed the checks
   pub accepted-is : (origin : ℕ) {core queue names lengths counts threads counts′ threads′ : List ℕ} {held head len at count : ℕ}
@@ -165,7 +167,7 @@ module _ (m : Machine) (name body : List ℕ) (place i : ℕ) (a : Accepted m na
       → queueOf queue head len counts′ threads′ ≡ startIf at i (queueOf (m .queue) (m .header .head) (m .header .length) counts threads)
       → count ≡ instructions body
       → given Done count core queue
-        (record { size = m .header .size; head = head; length = len; steps = m .header .steps; held = held; names = names; lengths = lengths; counts = counts′; threads = threads′ })
+      (record { size = m .header .size; head = head; length = len; steps = m .header .steps; held = held; names = names; lengths = lengths; counts = counts′; threads = threads′ })
       ≡ givenBy (loaded m name body origin place)
   unfolding loaded started-with
   accepted-is origin {core = core} {counts = cs} {threads = ts} {at = at} {count = count} er ec ea es en =

@@ -114,7 +114,7 @@ module _ (core : List ℕ) (place size : ℕ) (body : List ℕ) where
 
     pub in-two : {after part : List ℕ} → length core - place < length body / 12 → part ≡ sets (take (length core - place) (drop place core)) 0 (cells size body)
         → after ≡ sets (take place core ++ (part ++ drop (length core - place) (drop place core))) 0
-          (cells size (take (length body - 12 * (length core - place)) (drop (12 * (length core - place)) body)))
+        (cells size (take (length body - 12 * (length core - place)) (drop (12 * (length core - place)) body)))
         → after ≡ placedIf core place (cells size body)
     in-two g e f =
         f

@@ -6,13 +6,12 @@ ghost use Rattle.machine.specs.Load as spec;
 ghost use Rattle.machine.specs.Run as run;
 ghost use Rattle.process.specs.Parts.{machineOf};
 ghost use Rattle.sim.specs.Given.{given, givenBy};
-
 use answer::Answer;
+use load_file::Cell;
 use load_file::fresh_cell;
 use load_file::offset::reduce;
 use load_file::sound;
 use load_file::unpack;
-use load_file::Cell;
 use machine::Header;
 use process::soundness::sound_header;
 
@@ -104,7 +103,15 @@ pub fn get(core: &[u64], queue: &[u64], h: Header, number: i32) -> Reading
         × (r .cell ≡ unpacked (run.read (machineOf (now (core .entry)) (now (queue .entry)) h) number .value)) ⌝ }
 {
     if !sound_header(
-        core, queue, h.size, h.head, h.length, h.held, &h.names, &h.lengths, &h.counts,
+        core,
+        queue,
+        h.size,
+        h.head,
+        h.length,
+        h.held,
+        &h.names,
+        &h.lengths,
+        &h.counts,
     ) {
         return Reading {
             answer: Answer::UnsoundRecord,

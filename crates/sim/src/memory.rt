@@ -3,7 +3,6 @@ ghost use mathlib.Core.Path.{_≡_};
 ghost use lib.ListN.{length, replicate};
 ghost use Rattle.program.specs.Program.{cells};
 ghost use Rattle.sim.specs.Given.{placedIf};
-
 use program::write_cells;
 
 // Fills a memory with one word.

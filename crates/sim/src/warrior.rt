@@ -7,18 +7,17 @@ ghost use lib.ListN.{length, getD};
 ghost use Rattle.machine.specs.Load as spec;
 ghost use Rattle.process.specs.Parts.{headerOf, machineOf, registerIf};
 ghost use Rattle.sim.specs.Given.{given, givenBy, Accepted};
-
-use crate::memory::place_body;
 use crate::Outcome;
+use crate::memory::place_body;
 use answer::Answer;
-use load_file::offset::add;
 use load_file::offset::Absolute;
 use load_file::offset::Relative;
+use load_file::offset::add;
 use machine::Header;
 use process::names::find;
 use process::names::register;
-use process::queue::start;
 use process::queue::Ring;
+use process::queue::start;
 use process::soundness::sound_header;
 use program::len;
 use program::lowest_fault;
@@ -94,7 +93,15 @@ fn accept(
     let mut lengths = h.lengths;
     let mut counts = h.counts;
     let mut threads = h.threads;
-    let held = registered(&mut names, &mut lengths, &mut counts, &mut threads, h.held, i, name);
+    let held = registered(
+        &mut names,
+        &mut lengths,
+        &mut counts,
+        &mut threads,
+        h.held,
+        i,
+        name,
+    );
     place_body(core, place as usize, body, h.size);
     let at = add(Absolute(place), Relative(origin_of(origin)), h.size);
     let before = Ring {
@@ -136,7 +143,15 @@ fn load_named(
         ≡ givenBy (spec.load (machineOf (now (core .entry)) (now (queue .entry)) h) (now (name .entry)) (now (body .entry)) origin place) ⌝ }
 {
     if !sound_header(
-        core, queue, h.size, h.head, h.length, h.held, &h.names, &h.lengths, &h.counts,
+        core,
+        queue,
+        h.size,
+        h.head,
+        h.length,
+        h.held,
+        &h.names,
+        &h.lengths,
+        &h.counts,
     ) {
         return refuse(Answer::UnsoundRecord, h);
     }
