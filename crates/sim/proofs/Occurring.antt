@@ -16,26 +16,26 @@ use Rattle.machine.specs.Load.{blank, fresh, loaded, load}
 use Rattle.process.specs.Parts.{headerOf, machineOf}
 
 -- DAT.F $0,$0, and an instruction with no such opcode
-abbrev dat : List ℕ
+abbrev pub dat : List ℕ
 dat = 0 ∷ 4 ∷ 1 ∷ 1 ∷ replicate 8 0
 
-abbrev bad : List ℕ
+abbrev pub bad : List ℕ
 bad = 19 ∷ 4 ∷ 1 ∷ 1 ∷ replicate 8 0
 
 -- a fresh machine of 2 cells
-abbrev two : ℕ → Machine
+abbrev pub two : ℕ → Machine
 two limit = fresh 2 (0 ∷ 0 ∷ []) (replicate limit 0) .machine
 
 -- n names of one byte each, loaded one after the other
-abbrev crowd : ℕ → Machine → Machine
+abbrev pub crowd : ℕ → Machine → Machine
 crowd zero m = m
 crowd (suc n) m = crowd n (load m ((65 + n) ∷ []) dat 65535 0 .machine)
 
 -- one name with the greatest next thread number, and no entry
-abbrev worn : Machine
+abbrev pub worn : Machine
 worn = machineOf (two 1 .core) (0 ∷ []) (headerOf 2 0 0 1 (65 ∷ replicate 511 0) (1 ∷ replicate 15 0) (replicate 16 0) (4294967295 ∷ replicate 15 0))
 
-unfoldable outcomes : List Outcome
+unfoldable pub outcomes : List Outcome
 unfolding soundWord lawful lowestFault cells register numbered push started soundHeader fresh loaded load
 outcomes =
     fresh 2 (0 ∷ 0 ∷ []) (0 ∷ [])
