@@ -14,6 +14,7 @@ use Rattle.answer.specs.Numbers.{gives}
 use Rattle.laws.specs.Lists.{total, same}
 use Rattle.laws.proofs.Tests.{both, holds}
 use Rattle.laws.proofs.Tables.{length-table}
+use Rattle.laws.proofs.Tally.{count-le}
 use Rattle.laws.proofs.Lowest.{lowest-le}
 use Rattle.load_file.specs.Offset.{ahead}
 use Rattle.program.specs.Program.{instructions, lowestFault, cells}
@@ -34,13 +35,6 @@ zero-there : (l : List ℕ) (i : ℕ) → _≡_ {A = ℕ} (getD (set l i 0) i 0)
 zero-there [] i = refl
 zero-there (x ∷ xs) zero = refl
 zero-there (x ∷ xs) (suc i) = zero-there xs i
-
--- a count of those that are summed
-count-le : (l : List ℕ) (n i : ℕ) → i < n → getD l i 0 ≤ total (take n l)
-count-le [] n i h = zero-le
-count-le (x ∷ xs) zero i h = absurd (let z : ⊥ = omega arith in z)
-count-le (x ∷ xs) (suc n) zero h = omega arith
-count-le (x ∷ xs) (suc n) (suc i) h = let k : getD xs i 0 ≤ total (take n xs) = count-le xs n i (omega arith) in omega arith
 
 -- the index of a name
 slot-le : (h : Header) (name : List ℕ) → slot h name ≤ h .held

@@ -1,0 +1,24 @@
+-- `cycle::turn::split` meets its contract.
+-- Assumes nothing.
+use borrow.Author.Needs.{needs}
+use Rattle.cycle.proofs.turn.split.Statement.{statement}
+use Rattle.cycle.proofs.turn.split.Tie as tie
+use mathlib.Core.Path.{ap, _∙_}
+use Rattle.machine.specs.State.{Machine}
+use Rattle.process.specs.Parts.{startIf}
+use Rattle.cycle.specs.Turn.{threaded}
+
+go-on-requires : tie.Need-go-on-requires
+go-on-requires c κs = search needs
+
+start-requires : tie.Need-start-requires
+start-requires c κs = search needs
+
+same-length : tie.Need-same-length
+same-length c = search needs
+
+returns : tie.Need-returns
+returns c = c .before .before .start .ensures ∙ ap (λ (q : Machine). startIf (c .before .before .before .before .before .before .before .before .before .before .before .before .args .child .0) (c .before .before .before .before .before .before .before .before .before .before .before .before .args .next .name) (threaded (c .before .before .before .before .before .before .before .before .before .before .before .before .args .threads .now) q)) (c .before .before .before .before .before .before .before .before .go-on .ensures)
+
+pub split-spec : {M : Type 1} → statement M
+split-spec = tie.close (tie.spec go-on-requires start-requires same-length returns)

@@ -1,0 +1,3 @@
+// Step and run (01, 'One step').
+
+mod turn;
