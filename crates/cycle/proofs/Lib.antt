@@ -1,2 +1,2 @@
 pub mod Turns
-pub mod Stepping
+pub mod Answers

@@ -1,3 +1,4 @@
 // Step and run (01, 'One step').
 
+mod stepping;
 mod turn;

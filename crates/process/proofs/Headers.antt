@@ -17,7 +17,7 @@ use Rattle.program.specs.Metadata.{validByte, validName}
 use Rattle.machine.specs.declared.Header.{Header}
 use Rattle.machine.specs.State.{Machine}
 use Rattle.machine.specs.Names.{nameAt, names}
-use Rattle.machine.specs.Soundness.{soundHeader}
+use Rattle.machine.specs.Soundness.{soundHeader, soundEntry}
 use Rattle.process.specs.Parts.{headerOf, machineOf, validLength}
 
 -- the tests of numbers, which come first
@@ -94,3 +94,7 @@ pub by-parts : (core queue : List ℕ) (h : Header)
     ≡ soundHeader (machineOf core queue h)
 unfolding soundHeader
 by-parts core queue h = refl
+
+pub entry-by-parts : (h : Header) (w : ℕ) → soundEntry (headerOf (h .size) 0 0 (h .held) [] [] (h .counts) []) w ≡ soundEntry h w
+unfolding soundEntry
+entry-by-parts h w = refl

@@ -1,0 +1,123 @@
+// One step on the lent parts of a record whose header is sound (01, 'One step').
+ghost use mathlib.Core.Path.{_≡_};
+ghost use Prim.Native.Nat.{_+_};
+ghost use Rattle.answer.specs.Numbers.{told, gives};
+ghost use mathlib.Core.Bool.{cond};
+ghost use lib.Dec.{eqb};
+ghost use Rattle.machine.specs.Step as spec;
+ghost use Rattle.cycle.specs.Turn.{turned};
+ghost use Rattle.cycle.specs.Given.{given, givenBy, Ready, parts};
+
+use crate::turn::go_on;
+use crate::turn::split;
+use answer::Answer;
+use execute::execute;
+use execute::Executed;
+use load_file::offset::sum;
+use load_file::offset::Absolute;
+use machine::Entry;
+use process::entry::unpack;
+use process::queue::pop;
+use process::queue::Ring;
+use process::soundness::sound_front;
+
+// What a step answers, with its writes and steps, and the ring and the steps taken afterwards.
+pub struct Stepped {
+    pub answer: Answer,
+    pub writes: u32,
+    pub steps: u32,
+    pub ring: Ring,
+    pub taken: u32,
+}
+
+// A refusal: nothing has changed.
+fn refused(answer: Answer, ring: Ring, taken: u32) -> Stepped
+    ensures { λ r. ⌜ (r .answer ≡ answer) × (r .writes ≡ 0) × (r .steps ≡ 0) × (r .ring ≡ ring) × (r .taken ≡ taken) ⌝ }
+{
+    Stepped {
+        answer,
+        writes: 0,
+        steps: 0,
+        ring,
+        taken,
+    }
+}
+
+// The answer of an ending: its own if the name has no entries left.
+fn ending(answer: Answer, left: u32) -> Answer
+    ensures { λ r. ⌜ told r ≡ cond (eqb left 0) (told answer) (gives 0 0) ⌝ }
+{
+    if left == 0 {
+        return answer;
+    }
+    Answer::Done
+}
+
+// One step.
+pub fn step_once<'a>(
+    core: &mut [u64],
+    queue: &mut [u64],
+    counts: &mut [u32; 16],
+    threads: &mut [u32; 16],
+    names: &'a [u8; 512],
+    lengths: &'a [u8; 16],
+    size: u32,
+    held: u32,
+    ring: Ring,
+    taken: u32,
+) -> Stepped
+    requires { ⌜ Ready (parts (now core) (now queue) size (ring .head) (ring .length) taken held (now names) (now lengths) (now counts) (now threads)) ⌝ }
+    ensures { λ r. ⌜ given (r .answer) (r .writes) (r .steps)
+        (parts (now (core .exit)) (now (queue .exit)) size (r .ring .head) (r .ring .length) (r .taken) held (now (names .entry)) (now (lengths .entry)) (now (counts .exit)) (now (threads .exit)))
+        ≡ givenBy (spec.step (parts (now (core .entry)) (now (queue .entry)) size (ring .head) (ring .length) taken held (now (names .entry)) (now (lengths .entry)) (now (counts .entry)) (now (threads .entry)))) ⌝ }
+{
+    if ring.length == 0 {
+        return refused(Answer::NoRemainingProcesses, ring, taken);
+    }
+    let at = ring.head as usize;
+    let w = queue[at];
+    if !sound_front(w, size, held, counts) {
+        return refused(Answer::UnsoundRecord, ring, taken);
+    }
+    if taken == 4294967295 {
+        return refused(Answer::NumbersExhausted, ring, taken);
+    }
+    let e = unpack(w);
+    let who = e.name as usize;
+    let number = threads[who];
+    if number == 4294967295 {
+        return refused(Answer::NumbersExhausted, ring, taken);
+    }
+    match execute(core, size, e.place) {
+        Executed::Unsound => refused(Answer::UnsoundRecord, ring, taken),
+        Executed::PrivateMemory => refused(Answer::PrivateMemory, ring, taken),
+        Executed::Goes(place, writes) => {
+            let next = Entry {
+                place: Absolute(place),
+                thread: e.thread,
+                name: e.name,
+            };
+            let after = go_on(queue, ring, counts, next);
+            Stepped { answer: Answer::Done, writes, steps: 1, ring: after, taken: taken + 1 }
+        }
+        Executed::Splits(child, writes) => {
+            let next = Entry {
+                place: Absolute(sum(e.place.0, 1, size)),
+                thread: e.thread,
+                name: e.name,
+            };
+            let after = split(queue, ring, counts, threads, next, Absolute(child));
+            Stepped { answer: Answer::Done, writes, steps: 1, ring: after, taken: taken + 1 }
+        }
+        Executed::Dat(writes) => {
+            let after = pop(queue, ring, counts);
+            let answer = ending(Answer::ExecuteDat(e.place.0), counts[who]);
+            Stepped { answer, writes, steps: 1, ring: after, taken: taken + 1 }
+        }
+        Executed::DivideByZero(writes) => {
+            let after = pop(queue, ring, counts);
+            let answer = ending(Answer::DivideByZero, counts[who]);
+            Stepped { answer, writes, steps: 1, ring: after, taken: taken + 1 }
+        }
+    }
+}
