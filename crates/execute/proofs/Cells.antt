@@ -1,6 +1,6 @@
 -- Laws of words and sums: a cell with another number, the copied cell, what a sound word holds.
 -- Assumes nothing.
-use mathlib.Core.Path.{_≡_, sym, ap}
+use mathlib.Core.Path.{_≡_, sym, ap, _∙_}
 use mathlib.Core.Bool.{true}
 use Prim.Native.Nat.{ℕ, _+_, _-_, _*_, _/_, _%_, _^_, _≤_, _<_}
 use native.Mathlib.Nat.{mod-mod, mod-lt}
@@ -35,9 +35,10 @@ with-range A n c h r = record { opcode = r .opcode; modifier = r .modifier; a-mo
 with-range B n c h r = record { opcode = r .opcode; modifier = r .modifier; a-mode = r .a-mode; b-mode = r .b-mode; a = r .a; b = h }
 
 -- a number stored, and then another
-pub with-with : (f g : Field) (x y w : ℕ) → x < 65536
-    → packed (withNumber g y (unpacked (packed (withNumber f x (unpacked w))))) ≡ packed (withNumber g y (withNumber f x (unpacked w)))
-with-with f g x y w h = ap (λ (c : Cell). packed (withNumber g y c)) (unpack-pack _ (with-range f x (unpacked w) h (word-range w)))
+pub stored-both : (f g : Field) (x y w u v : ℕ) → x < 65536 → u ≡ packed (withNumber f x (unpacked w)) → v ≡ packed (withNumber g y (unpacked u))
+    → v ≡ packed (withNumber g y (withNumber f x (unpacked w)))
+stored-both f g x y w u v h e k =
+    k ∙ ap (λ (c : Cell). packed (withNumber g y c)) (ap unpacked e ∙ unpack-pack _ (with-range f x (unpacked w) h (word-range w)))
 
 -- a sound word is the word of its cell
 pub whole : (size w : ℕ) → soundWord size w ≡ true → packed (unpacked w) ≡ w

@@ -52,11 +52,16 @@ abbrev pub sceneOf : ℕ → ℕ → ℕ → ℕ → ℕ → ℕ → ℕ → mac
 sceneOf size modifier pc jump ra rb live =
     record { size = size; modifier = modifier; pc = pc; jump = jump; ra = unpacked ra; rb = unpacked rb; live = unpacked live }
 
--- the answer and the core of a scene's effect, `w` writes made before
+-- the answer of a scene's effect, `w` writes made before
+abbrev pub Answers : ℕ → machine.Scene → ℕ → Executed → Type 0
+Answers opcode s w r =
+    let e = machine.effectOf opcode s in
+    r ≡ answered (e .next) (w + storeWrites (e .cell))
+
+-- and the core
 abbrev pub Does : ℕ → machine.Scene → List ℕ → ℕ → ℕ → Executed → List ℕ → Type 0
 Does opcode s core target w r after =
-    let e = machine.effectOf opcode s in
-    (r ≡ answered (e .next) (w + storeWrites (e .cell))) × (after ≡ storeTo (e .cell) core target)
+    Answers opcode s w r × (after ≡ storeTo (machine.effectOf opcode s .cell) core target)
 
 -- what the code asks
 pub record Set (size : ℕ) (core : List ℕ) (modifier pc target ra rb w : ℕ) : Type 0 where
