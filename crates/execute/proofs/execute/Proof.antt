@@ -3,8 +3,6 @@
 use borrow.Author.Needs.{needs}
 use Rattle.execute.proofs.execute.Statement.{statement}
 use Rattle.execute.proofs.execute.Tie as tie
-use mathlib.Core.Path.{_≡_}
-use mathlib.Core.Bool.{true, false}
 use borrow.Author.Tests.{not-true, not-false}
 use Rattle.laws.proofs.Tests.{refuted, upheld}
 use Rattle.execute.proofs.Executing.{too-large, other-length, outside, inside, unplaced, unsound-here, is-private, fetched-here, refused, ready, done}
@@ -46,16 +44,16 @@ same-length : tie.Need-same-length
 same-length c = search needs
 
 returns-6 : tie.Need-returns-6
-returns-6 c = ?
+returns-6 c = refused (c .before .before .before .before .before .before .before .before .before .before .before .before .before .before .before .before .before .args .size) (c .before .before .before .before .before .before .before .before .before .before .before .before .before .before .before .before .before .args .core .now) (c .before .before .before .before .before .before .before .before .before .before .before .before .before .before .before .before .before .args .pc .0) (inside (c .before .before .before .before .before .before .before .before .before .before .before .before .before .before .before .before .before .args .size) (c .before .before .before .before .before .before .before .before .before .before .before .before .before .before .before .before .before .args .core .now) (c .before .before .before .before .before .before .before .before .before .before .before .before .before .before .before .before .before .args .pc .0) (c .before .before .before .before .before .before .before .before .before .before .before .before .before .before .before .if1 .left) (c .before .before .before .before .before .before .before .before .before .before .before .before .before .before .if2 .left) (c .before .before .before .before .before .before .before .before .before .before .before .before .if3 .left)) (upheld (c .before .before .before .before .before .before .before .before .before .sound .ensures) (c .before .before .before .before .before .before .before .before .if4 .left)) (rw (c .before .before .before .before .before .before .before .opcode .ensures) at (c .before .before .before .before .before .before .if5 .left)) (c .before .before .before .before .before .before .before .before .before .before .before .before .before .before .before .if1 .left) (c .before .before .before .before .before .before .before .before .before .before .before .before .before .before .if2 .left) (c .before .before .before .before .before .before .before .before .before .before .before .before .if3 .left) _ _ (c .before .before .before .before .evaluate .ensures) (not-true _ (c .if6 .taken))
 
 act-requires : tie.Need-act-requires
-act-requires c κs = ?
+act-requires c κs = ready (c .before .before .before .before .before .before .before .before .before .before .before .before .before .before .before .before .before .before .before .before .args .size) (c .before .before .before .before .before .before .before .before .before .before .before .before .before .before .before .before .before .before .before .before .args .core .now) (c .before .before .before .before .before .before .before .before .before .before .before .before .before .before .before .before .before .before .before .before .args .pc .0) (inside (c .before .before .before .before .before .before .before .before .before .before .before .before .before .before .before .before .before .before .before .before .args .size) (c .before .before .before .before .before .before .before .before .before .before .before .before .before .before .before .before .before .before .before .before .args .core .now) (c .before .before .before .before .before .before .before .before .before .before .before .before .before .before .before .before .before .before .before .before .args .pc .0) (c .before .before .before .before .before .before .before .before .before .before .before .before .before .before .before .before .before .before .if1 .left) (c .before .before .before .before .before .before .before .before .before .before .before .before .before .before .before .before .before .if2 .left) (c .before .before .before .before .before .before .before .before .before .before .before .before .before .before .before .if3 .left)) (upheld (c .before .before .before .before .before .before .before .before .before .before .before .before .sound .ensures) (c .before .before .before .before .before .before .before .before .before .before .before .if4 .left)) (rw (c .before .before .before .before .before .before .before .before .before .before .opcode .ensures) at (c .before .before .before .before .before .before .before .before .before .if5 .left)) (c .before .before .before .before .before .before .before .before .before .before .before .before .before .before .before .before .before .before .if1 .left) (c .before .before .before .before .before .before .before .before .before .before .before .before .before .before .before .before .before .if2 .left) (c .before .before .before .before .before .before .before .before .before .before .before .before .before .before .before .if3 .left) _ _ (c .before .before .before .before .before .before .before .evaluate .ensures) (not-false _ (c .before .before .before .if6 .left))
 
 same-length-2 : tie.Need-same-length-2
 same-length-2 c = search needs
 
 returns-7 : tie.Need-returns-7
-returns-7 c = ?
+returns-7 c = done (c .before .before .before .before .before .before .before .before .before .before .before .before .before .before .before .before .before .before .before .before .before .before .before .args .size) (c .before .before .before .before .before .before .before .before .before .before .before .before .before .before .before .before .before .before .before .before .before .before .before .args .core .now) (c .before .before .before .before .before .before .before .before .before .before .before .before .before .before .before .before .before .before .before .before .before .before .before .args .pc .0) (inside (c .before .before .before .before .before .before .before .before .before .before .before .before .before .before .before .before .before .before .before .before .before .before .before .args .size) (c .before .before .before .before .before .before .before .before .before .before .before .before .before .before .before .before .before .before .before .before .before .before .before .args .core .now) (c .before .before .before .before .before .before .before .before .before .before .before .before .before .before .before .before .before .before .before .before .before .before .before .args .pc .0) (c .before .before .before .before .before .before .before .before .before .before .before .before .before .before .before .before .before .before .before .before .before .if1 .left) (c .before .before .before .before .before .before .before .before .before .before .before .before .before .before .before .before .before .before .before .before .if2 .left) (c .before .before .before .before .before .before .before .before .before .before .before .before .before .before .before .before .before .before .if3 .left)) (upheld (c .before .before .before .before .before .before .before .before .before .before .before .before .before .before .before .sound .ensures) (c .before .before .before .before .before .before .before .before .before .before .before .before .before .before .if4 .left)) (rw (c .before .before .before .before .before .before .before .before .before .before .before .before .before .opcode .ensures) at (c .before .before .before .before .before .before .before .before .before .before .before .before .if5 .left)) (c .before .before .before .before .before .before .before .before .before .before .before .before .before .before .before .before .before .before .before .before .before .if1 .left) (c .before .before .before .before .before .before .before .before .before .before .before .before .before .before .before .before .before .before .before .before .if2 .left) (c .before .before .before .before .before .before .before .before .before .before .before .before .before .before .before .before .before .before .if3 .left) _ _ (c .before .before .before .before .before .before .before .before .before .before .evaluate .ensures) (not-false _ (c .before .before .before .before .before .before .if6 .left)) _ _ (c .before .before .act .ensures)
 
 pub execute-spec : {M : Type 1} → statement M
 execute-spec =
