@@ -6,11 +6,11 @@ use mathlib.Core.Logic.{_⊎_, inl, inr, ⊎-elim}
 use mathlib.Core.List.{List, [], _∷_}
 use mathlib.Core.Option.{Option, none, some}
 use Prim.Native.Nat.{ℕ, zero, suc, _+_, _-_, _*_, _/_, _%_, _^_, _≤_, _<_, zero-le}
-use native.Mathlib.Nat.{add-zero, mod-lt, lt-trans, lt-of-le-of-lt, le-of-lt, div-le-self, mod-le, mod-add-mod, mul-le-mul-left, mul-lt-mul-of-pos-right, eq-or-lt-of-le}
+use native.Mathlib.Nat.{add-zero, mod-lt, lt-of-le-of-lt, le-of-lt, div-le-self, mod-le, mod-add-mod, mul-le-mul-left, mul-lt-mul-of-pos-right, eq-or-lt-of-le}
 use native.Mathlib.Omega.{arith}
 use lib.Dec.{eqb, ltb, lit<}
-use lib.ListN.{length, getD, set, length-set, List·getD-eq-default}
-use borrow.Author.Tests.{eq-eqb, ne-eqb}
+use lib.ListN.{getD, set, List·getD-eq-default}
+use borrow.Author.Tests.{ne-eqb}
 use Rattle.laws.specs.Lists.{every}
 use Rattle.laws.proofs.Cases.{span}
 use Rattle.laws.proofs.Modulo.{mod-small}
@@ -23,7 +23,7 @@ use Rattle.load_file.specs.Types.{Field, A, B, pairsOf}
 use Rattle.load_file.specs.Cells.{packed, unpacked, soundWord, number, withNumber, relative}
 use Rattle.load_file.proofs.Words.{InRange, unpack-pack}
 use Rattle.machine.specs.Execution as machine
-use Rattle.machine.specs.Execution.{Scene, Effect, ends, goes, splits, dat, divisor, mets, some?, onward, computes, stored, put, isNone, copied, effects, effectOf}
+use Rattle.machine.specs.Execution.{Scene, Effect, ends, goes, divisor, mets, some?, computes, stored, put, isNone, effects, effectOf}
 use Rattle.machine.specs.Pointers.{less}
 use Rattle.machine.specs.Instruction.{storeTo, storeWrites}
 use Rattle.execute.specs.declared.Executed.{Executed}
@@ -32,7 +32,7 @@ use Rattle.execute.specs.declared.modifier.Met.{Met}
 use Rattle.execute.specs.Instruction.{answered}
 use Rattle.execute.specs.Words.{fieldBy, copyOf, Reduced}
 use Rattle.execute.specs.Acts.{metOf, firstOf, lastOf, Below, valueBy, sceneOf, Answers, Does, Set}
-use Rattle.execute.proofs.Cells.{ahead-below, word-range, with-range, number-below, whole}
+use Rattle.execute.proofs.Cells.{word-range, with-range, number-below, whole}
 
 -- the numbers that the code reads are those that meet
 pub met-is : (k ra rb : ℕ) {p : Pairs} {a1 b1 a2 b2 : Relative} → p ≡ pairsOf k
@@ -71,9 +71,13 @@ unfolding metOf
 shape size k pc jump ra rb live h =
     span k 0 7 zero-le (omega arith) (
       λ e. rw e (inl (refl, refl)),
-      (λ e. rw e (inl (refl, refl)),
-      (λ e. rw e (inl (refl, refl)),
-      (λ e. rw e (inl (refl, refl)), (λ e. rw e (inr refl), (λ e. rw e (inr refl), (λ e. rw e (inr refl), tt)))))),
+      (
+        λ e. rw e (inl (refl, refl)),
+        (
+          λ e. rw e (inl (refl, refl)),
+          (λ e. rw e (inl (refl, refl)), (λ e. rw e (inr refl), (λ e. rw e (inr refl), (λ e. rw e (inr refl), tt)))),
+        ),
+      ),
     )
 
 module _ (s : Scene) (p : Met) (sh : Shape s p) where
@@ -230,10 +234,13 @@ module _ (size : ℕ) (core : List ℕ) (k pc jump target ra rb w : ℕ) where
         where
           stores : some? (λ x. not (isNone (f size (x .a) (x .b)))) scene ≡ true
           stores = some-two scene p shaped (λ x. not (isNone (f size (x .a) (x .b)))) ∙ rw (← e1)
+
           no-zero : some? (λ x. isNone (f size (x .a) (x .b))) scene ≡ false
           no-zero = some-two scene p shaped (λ x. isNone (f size (x .a) (x .b))) ∙ rw (← e1, ← e2)
+
           filled : stored (f size) (mets scene) (scene .live) ≡ withNumber (fieldBy (p .t2)) v2 (withNumber (fieldBy (p .t1)) v1 (unpacked (getD core target 0)))
           filled = stored-two scene p shaped (f size) (scene .live) ∙ rw (← e1, ← e2)
+
           known : computes scene f (scene .live)
               ≡ record { cell = some (withNumber (fieldBy (p .t2)) v2 (withNumber (fieldBy (p .t1)) v1 (unpacked (getD core target 0)))); next = goes (ahead size pc 1) }
           known = λ i. record { cell = cond (stores i) (some (filled i)) none; next = cond (no-zero i) (ends divisor) (goes (ahead size pc 1)) }
@@ -261,14 +268,18 @@ module _ (size : ℕ) (core : List ℕ) (k pc jump target ra rb w : ℕ) where
           where
             first : isNone (valueBy op size (p .a1 .0) (p .b1 .0)) ≡ eqb (p .b1 .0) 0
             first = none-is op size (p .a1 .0) (p .b1 .0) l u
+
             last : isNone (valueBy op size (p .a2 .0) (p .b2 .0)) ≡ eqb (p .b2 .0) 0
             last = none-is op size (p .a2 .0) (p .b2 .0) l u
+
             stores : some? (λ x. not (isNone (valueBy op size (x .a) (x .b)))) scene ≡ not all
             stores =
                 some-two scene p shaped (λ x. not (isNone (valueBy op size (x .a) (x .b)))) ∙ rw (first, last) (not-both (eqb (p .b1 .0) 0) (eqb (p .b2 .0) 0))
                 ∙ ap not ea
+
             zero-one : some? (λ x. isNone (valueBy op size (x .a) (x .b))) scene ≡ one
             zero-one = some-two scene p shaped (λ x. isNone (valueBy op size (x .a) (x .b))) ∙ rw (first, last) eo
+
             known : computes scene (valueBy op) (scene .live)
                 ≡ record {
                   cell = cond (not all) (some (put (valueBy op size (p .a2 .0) (p .b2 .0)) (fieldBy (p .t2)) (put (valueBy op size (p .a1 .0) (p .b1 .0)) (fieldBy (p .t1)) (unpacked (getD core target 0))))) none;
@@ -288,6 +299,7 @@ module _ (size : ℕ) (core : List ℕ) (k pc jump target ra rb w : ℕ) where
           where
             half-packed : half ≡ packed (put (valueBy op size (p .a1 .0) (p .b1 .0)) (fieldBy (p .t1)) (unpacked (getD core target 0)))
             half-packed = part-is op size (p .a1 .0) (p .b1 .0) (fieldBy (p .t1)) (getD core target 0) half l u (below .a1) (whole size (getD core target 0) (ok .live)) eh
+
             half-is : unpacked half ≡ put (valueBy op size (p .a1 .0) (p .b1 .0)) (fieldBy (p .t1)) (unpacked (getD core target 0))
             half-is =
                 ap unpacked half-packed
@@ -318,8 +330,10 @@ module _ (size : ℕ) (core : List ℕ) (k pc jump target ra rb w : ℕ) where
         where
           some-left : some? (λ x. not (eqb (less size (x .b)) 0)) scene ≡ g
           some-left = some-two scene p shaped (λ x. not (eqb (less size (x .b)) 0)) ∙ rw (← e1, ← e2) eg
+
           filled : stored (machine.lowered size) (mets scene) (scene .live) ≡ withNumber (fieldBy (p .t2)) n2 (withNumber (fieldBy (p .t1)) n1 (unpacked (getD core target 0)))
           filled = stored-two scene p shaped (machine.lowered size) (scene .live) ∙ rw (e1, e2)
+
           known : machine.counts scene
               ≡ record { cell = some (withNumber (fieldBy (p .t2)) n2 (withNumber (fieldBy (p .t1)) n1 (unpacked (getD core target 0)))); next = goes (cond g jump (ahead size pc 1)) }
           known = λ i. record { cell = some (filled i); next = goes (cond (some-left i) jump (ahead size pc 1)) }
@@ -353,6 +367,7 @@ jumped size k pc jump ra rb w op row l u p ep g eg r er =
   where
     s : Scene
     s = sceneOf size k pc jump ra rb 0
+
     sh : Shape (sceneOf size k pc jump ra rb 0) p
     sh = rw ep (shape size k pc jump ra rb 0 row)
 

@@ -12,7 +12,7 @@ use Rattle.load_file.specs.Offset.{ahead}
 use Rattle.load_file.specs.Types.{Field, A, B}
 use Rattle.load_file.specs.Cells.{packed, unpacked, soundWord, number, withNumber}
 use Rattle.load_file.proofs.Words.{InRange, unpack-pack, pack-unpack}
-use Rattle.load_file.proofs.Soundness.{Sound, sound-fields, fields-sound}
+use Rattle.load_file.proofs.Soundness.{sound-fields, fields-sound}
 use Rattle.execute.specs.Words.{Reduced, copyOf}
 
 -- a sum below the size, and one past it

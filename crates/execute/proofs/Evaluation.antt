@@ -1,18 +1,16 @@
 -- Laws of both operands: what the machine's operands are, from what the code finds of each.
 -- Assumes nothing.
-use mathlib.Core.Path.{_≡_, refl, sym, ap, _∙_}
-use mathlib.Core.Bool.{Bool, true, false, _&&_}
+use mathlib.Core.Path.{_≡_, refl, ap, _∙_}
+use mathlib.Core.Bool.{true, false}
 use mathlib.Core.List.{List}
 use Prim.Native.Nat.{ℕ, _+_, _≤_, _<_}
 use native.Mathlib.Omega.{arith}
 use lib.ListN.{length, getD, set}
 use Rattle.load_file.specs.Offset.{ahead}
-use Rattle.load_file.specs.Cells.{packed, unpacked, soundWord}
-use Rattle.machine.specs.Pointers as machine
+use Rattle.load_file.specs.Cells.{unpacked}
 use Rattle.machine.specs.Instruction.{fetched, aOperand, bOperand}
 use Rattle.execute.specs.declared.address.Operand.{Operand}
-use Rattle.execute.specs.declared.address.Operands.{Operands}
-use Rattle.execute.specs.Operands.{absolute, evaluated, operandOf, coreOf, operandsOf, coreBoth, joined, neither, Ready, Fetched}
+use Rattle.execute.specs.Operands.{evaluated, operandsOf, coreBoth, neither, Ready, Fetched}
 use Rattle.execute.proofs.Cells.{ahead-below, number-below}
 use Rattle.load_file.specs.Types.{A, B}
 use Rattle.execute.proofs.Pointing.{Gives, machine-sound, opened, unchanged, length-after, put-back, sound-after, writes-few}

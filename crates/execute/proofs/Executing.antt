@@ -1,26 +1,23 @@
 -- Laws of one instruction: what is answered and the core afterwards, for each return of the code.
 -- Assumes nothing.
 use mathlib.Core.Path.{_≡_, refl, sym, ap, _∙_}
-use mathlib.Core.Bool.{Bool, true, false, cond, not, _&&_}
+use mathlib.Core.Bool.{Bool, true, false, cond}
 use mathlib.Core.List.{List}
 use Prim.Native.Nat.{ℕ, _+_, _≤_, _<_}
 use native.Mathlib.Omega.{arith}
-use lib.Dec.{eqb, leb, ltb}
 use lib.ListN.{length, getD}
 use borrow.Author.Tests.{eq-eqb, ne-eqb, le-leb, lt-leb, lt-ltb, le-ltb}
 use Rattle.laws.proofs.Cases.{span}
 use Rattle.laws.proofs.Tests.{both, and-false}
 use Rattle.load_file.specs.Types.{B}
-use Rattle.load_file.specs.declared.Cell.{Cell}
-use Rattle.load_file.specs.Cells.{packed, unpacked, soundWord}
+use Rattle.load_file.specs.Cells.{unpacked, soundWord}
 use Rattle.load_file.proofs.Soundness.{sound-fields}
-use Rattle.machine.specs.Execution.{Scene}
 use Rattle.machine.specs.Instruction.{fetched, aOperand, bOperand, sceneAt}
 use Rattle.execute.specs.declared.Executed.{Executed}
 use Rattle.execute.specs.declared.Executed.the-variants.{PrivateMemory, Unsound}
 use Rattle.execute.specs.declared.address.Operands.{Operands}
 use Rattle.execute.specs.Instruction.{placed, private, soundRead, executedAt, coreAfter}
-use Rattle.execute.specs.Operands.{Fetched, Ready, joined, neither, operandOf, coreOf, operandsOf, coreBoth}
+use Rattle.execute.specs.Operands.{Fetched, Ready, joined, neither, operandsOf, coreBoth}
 use Rattle.execute.specs.Acts.{sceneOf, Does, Set}
 use Rattle.execute.proofs.Cells.{number-below}
 use Rattle.execute.proofs.Pointing.{length-after, sound-after, pointer-below, pointer-sound, register-sound, register-whole, writes-few}
@@ -144,5 +141,5 @@ module _ (size : ℕ) (core : List ℕ) (pc : ℕ) where
               let t = read-is q in
               let n = not-private in
               let m : Does (fetched core pc .opcode) (sceneAt size core pc) (bOperand size core pc .core) (bOperand size core pc .pointer) (aOperand size core pc .writes + bOperand size core pc .writes) r l =
-                rw (scene-is, c1-is, o-is) at d in
+              rw (scene-is, c1-is, o-is) at d in
               (m .0 ∙ simp (p, s, n, t), m .1 ∙ simp (p, s, n, t))

@@ -1,27 +1,25 @@
 -- Laws of one operand: what the machine's operand is, by the mode's range, from what the code finds; what it keeps.
 -- Assumes nothing.
-use mathlib.Core.Path.{_≡_, refl, sym, ap, _∙_, subst}
+use mathlib.Core.Path.{_≡_, refl, sym, ap, _∙_}
 use mathlib.Core.Bool.{Bool, true, false, cond, _&&_}
 use mathlib.Core.List.{List, [], _∷_}
-use Prim.Native.Nat.{ℕ, zero, suc, _+_, _-_, _%_, _≤_, _<_, zero-le}
+use Prim.Native.Nat.{ℕ, zero, suc, _%_, _≤_, _<_, zero-le}
 use native.Mathlib.Omega.{arith}
-use lib.Dec.{T, eqb}
+use lib.Dec.{eqb}
 use lib.ListN.{length, getD, set, length-set}
 use lib.Seq.{set-getD, set-set, getD-set-same, getD-set-other}
 use borrow.Author.Tests.{eqb-true, eqb-false}
 use Rattle.laws.proofs.Cases.{span}
 use Rattle.laws.proofs.Tests.{both}
-use Rattle.load_file.specs.declared.Cell.{Cell}
 use Rattle.load_file.specs.Offset.{ahead}
-use Rattle.load_file.specs.Types.{Field, A, B}
+use Rattle.load_file.specs.Types.{Field, A}
 use Rattle.load_file.specs.Cells.{packed, unpacked, soundWord, number, withNumber}
 use Rattle.load_file.proofs.Words.{unpack-pack}
-use Rattle.machine.specs.Pointers as machine
 use Rattle.machine.specs.Pointers.{Reach, here, there, through, Turn, keeps, lowers, raises, reaches, turns, fieldOf, less, more, used, pointerOf, changed, before, after, turnWrites, operand}
 use Rattle.execute.specs.declared.address.Operand.{Operand}
 use Rattle.execute.specs.Words.{fieldBy}
-use Rattle.execute.specs.Operands.{absolute, evaluated, refused, operandOf, coreOf, Ready}
-use Rattle.execute.proofs.Cells.{ahead-below, number-below, whole, with-sound, word-range}
+use Rattle.execute.specs.Operands.{absolute, held, evaluated, refused, operandOf, coreOf, Ready}
+use Rattle.execute.proofs.Cells.{ahead-below, whole, with-sound, word-range}
 
 -- the modes by range
 pub goes-through : (mode : ℕ) → 2 ≤ mode → mode < 8 → getD reaches mode here ≡ through (fieldBy (mode % 2))
@@ -65,6 +63,7 @@ stored-sound size core i j v l h = by (soundWord size (getD core i 0)) refl
         ap (λ (k : ℕ). soundWord size (getD (set core i v) k 0)) (eqb-true j i e) ∙ ap (soundWord size) (getD-set-same core i v 0 l) ∙ h s ∙ sym s
         ∙ ap (λ (k : ℕ). soundWord size (getD core k 0)) (sym (eqb-true j i e))
     at false e s = ap (soundWord size) (getD-set-other core i j v 0 (eqb-false j i e))
+
     by : (t : Bool) → soundWord size (getD core i 0) ≡ t → (t && soundWord size (getD (set core i v) j 0)) ≡ (t && soundWord size (getD core j 0))
     by true s = at (eqb j i) refl s
     by false s = refl
@@ -159,7 +158,7 @@ module _ (size : ℕ) (core : List ℕ) (pc mode n : ℕ) where
       assembled : {register writes : ℕ} {l : List ℕ} → operand size core pc mode n .pointer ≡ pointer → soundWord size (getD core pointer 0) ≡ true
           → register ≡ packed (operand size core pc mode n .register) → writes ≡ operand size core pc mode n .writes
           → l ≡ operand size core pc mode n .core
-          → Gives (record { sound = true; location = absolute location; old = getD core location 0; pointer = absolute pointer; register = register; writes = writes }) l
+          → Gives (held (absolute location) (getD core location 0) (absolute pointer) register writes) l
       assembled e s er ew el =
           gives (verdict e ∙ s)
           (λ i. record { sound = true; location = absolute (is i); old = getD core (is i) 0; pointer = absolute (sym e i); register = er i; writes = ew i }) el
@@ -171,18 +170,19 @@ module _ (size : ℕ) (core : List ℕ) (pc mode n : ℕ) where
       plainly e s er = sym (ap packed (er ∙ ap (λ (j : ℕ). unpacked (getD core j 0)) e) ∙ whole size (getD core pointer 0) s)
 
     pub hash : soundWord size (getD core location 0) ≡ true → soundWord size (getD core pc 0) ≡ true → mode ≡ 0
-        → Gives (record { sound = true; location = absolute location; old = getD core location 0; pointer = absolute pc; register = getD core pc 0; writes = 0 }) core
+        → Gives (held (absolute location) (getD core location 0) (absolute pc) (getD core pc 0) 0) core
     hash h s e = assembled h pc (at-pc e) s (plainly h pc (at-pc e) s (register-keeps turn)) (writes-are turn) (core-keeps turn)
       where
         turn : getD turns mode keeps ≡ keeps
         turn = rw e
 
     pub dollar : soundWord size (getD core location 0) ≡ true → mode ≡ 1
-        → Gives (record { sound = true; location = absolute location; old = getD core location 0; pointer = absolute location; register = getD core location 0; writes = 0 }) core
+        → Gives (held (absolute location) (getD core location 0) (absolute location) (getD core location 0) 0) core
     dollar h e = assembled h location there-is h (plainly h location there-is h (register-keeps turn)) (writes-are turn) (core-keeps turn)
       where
         turn : getD turns mode keeps ≡ keeps
         turn = rw e
+
         there-is : operand size core pc mode n .pointer ≡ location
         there-is = at-location e ∙ sym is
 
@@ -200,14 +200,14 @@ module _ (size : ℕ) (core : List ℕ) (pc mode n : ℕ) where
       bad-pointer s = refuses (verdict h pointer points ∙ s)
 
       pub plain : soundWord size (getD core pointer 0) ≡ true → mode < 4
-          → Gives (record { sound = true; location = absolute location; old = getD core location 0; pointer = absolute pointer; register = getD core pointer 0; writes = 0 }) core
+          → Gives (held (absolute location) (getD core location 0) (absolute pointer) (getD core pointer 0) 0) core
       plain s l =
           let t = turn-keeps mode l in
           assembled h pointer points s (plainly h pointer points s (register-keeps t)) (writes-are t) (core-keeps t)
 
       module _ (s : soundWord size (getD core pointer 0) ≡ true) (l : List ℕ) (word : ℕ) (el : l ≡ set core location word) where
         pub lower : 4 ≤ mode → mode < 6 → word ≡ packed (withNumber (fieldBy (mode % 2)) to (unpacked (getD core location 0)))
-            → Gives (record { sound = true; location = absolute location; old = getD core location 0; pointer = absolute pointer; register = getD l pointer 0; writes = 1 }) l
+            → Gives (held (absolute location) (getD core location 0) (absolute pointer) (getD l pointer 0) 1) l
         lower p q ew =
             assembled h pointer points s
             (sym (ap packed (register-lowers t ∙ ap (λ (j : ℕ). unpacked (getD (changed core (ahead size pc n) field (less size found)) j 0)) points ∙ ap (λ (x : List ℕ). unpacked (getD x pointer 0)) (sym lowered))
@@ -216,10 +216,13 @@ module _ (size : ℕ) (core : List ℕ) (pc mode n : ℕ) where
           where
             t : getD turns mode keeps ≡ lowers
             t = turn-lowers mode p q
+
             to-is : to ≡ less size found
             to-is = et ∙ rw (t, seen-is)
+
             lowered : l ≡ changed core (ahead size pc n) field (less size found)
             lowered = rw (el, ew, to-is, is, goes-through mode two eight)
+
             sound-there : soundWord size (getD l pointer 0) ≡ true
             sound-there =
                 rw (el, ew)
@@ -227,13 +230,14 @@ module _ (size : ℕ) (core : List ℕ) (pc mode n : ℕ) where
                 (with-sound (fieldBy (mode % 2)) size (getD core location 0) to (k .valid) h (rw to-is (ahead-below _ _ (k .place)))) s)
 
         pub raise : 6 ≤ mode → (up : ℕ) → up ≡ more size seen → word ≡ packed (withNumber (fieldBy (mode % 2)) up (unpacked (getD core location 0)))
-            → Gives (record { sound = true; location = absolute location; old = getD core location 0; pointer = absolute pointer; register = getD core pointer 0; writes = 1 }) l
+            → Gives (held (absolute location) (getD core location 0) (absolute pointer) (getD core pointer 0) 1) l
         raise p up eu ew =
             assembled h pointer points s (plainly h pointer points s (register-raises t)) (writes-are t)
             (raised ∙ core-raises t)
           where
             t : getD turns mode keeps ≡ raises
             t = turn-raises mode p eight
+
             raised : l ≡ changed core (ahead size pc n) field (more size found)
             raised = rw (el, ew, eu, seen-is, is, goes-through mode two eight)
 

@@ -23,17 +23,13 @@ pub record Ready (size : ℕ) (core : List ℕ) (pc n : ℕ) : Type 0 where
   pub place : pc < size
   pub number : n < size
 
+abbrev pub held : Absolute → ℕ → Absolute → ℕ → ℕ → Operand
+held location old pointer register writes =
+    record { sound = true; location = location; old = old; pointer = pointer; register = register; writes = writes }
+
 -- the location and the word there, to put it back; the machine's pointer, register and writes
 abbrev pub evaluated : List ℕ → ℕ → machine.Operand → Operand
-evaluated core location o =
-    record {
-      sound = true;
-      location = absolute location;
-      old = getD core location 0;
-      pointer = absolute (o .pointer);
-      register = packed (o .register);
-      writes = o .writes;
-    }
+evaluated core location o = held (absolute location) (getD core location 0) (absolute (o .pointer)) (packed (o .register)) (o .writes)
 
 abbrev pub refused : Operand
 refused = record { sound = false; location = absolute 0; old = 0; pointer = absolute 0; register = 0; writes = 0 }

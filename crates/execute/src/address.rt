@@ -7,8 +7,7 @@ ghost use Rattle.load_file.specs.Cells.{soundWord};
 ghost use Rattle.machine.specs.Pointers as spec;
 ghost use Rattle.machine.specs.Instruction.{fetched};
 ghost use Rattle.execute.specs.Words.{Reduced};
-ghost use Rattle.execute.specs.Operands.{Ready, Fetched, operandOf, coreOf, operandsOf, coreBoth, refused, neither};
-
+ghost use Rattle.execute.specs.Operands.{Ready, Fetched, operandOf, coreOf, operandsOf, coreBoth, refused, held, neither};
 use crate::word::a_mode;
 use crate::word::b_mode;
 use crate::word::number;
@@ -71,6 +70,20 @@ fn refuse() -> Operand
     }
 }
 
+// An operand that read sound cells.
+fn hold(location: Absolute, old: u64, pointer: Absolute, register: u64, writes: u32) -> Operand
+    ensures { λ r. ⌜ r ≡ held location old pointer register writes ⌝ }
+{
+    Operand {
+        sound: true,
+        location,
+        old,
+        pointer,
+        register,
+        writes,
+    }
+}
+
 // The modes `#` and `$`, which need no second look at the pointer's cell.
 fn direct(core: &[u64], size: u32, pc: Absolute, here: u64, mode: u64, n: Relative) -> Operand
     requires { ⌜ Ready size (now core) (pc .0) (n .0) × (mode < 2) × (here ≡ getD (now core) (pc .0) 0) × (soundWord size here ≡ true) ⌝ }
@@ -83,23 +96,9 @@ fn direct(core: &[u64], size: u32, pc: Absolute, here: u64, mode: u64, n: Relati
         return refuse();
     }
     if mode == 0 {
-        return Operand {
-            sound: true,
-            location,
-            old,
-            pointer: pc,
-            register: here,
-            writes: 0,
-        };
+        return hold(location, old, pc, here, 0);
     }
-    Operand {
-        sound: true,
-        location,
-        old,
-        pointer: location,
-        register: old,
-        writes: 0,
-    }
+    hold(location, old, location, old, 0)
 }
 
 // The number that the pointer is made of: the one found, minus 1 for `{` and `<`.
@@ -137,37 +136,16 @@ fn indirect(core: &mut [u64], size: u32, pc: Absolute, mode: u64, n: Relative) -
         return refuse();
     }
     if mode < 4 {
-        return Operand {
-            sound: true,
-            location,
-            old,
-            pointer,
-            register: cell,
-            writes: 0,
-        };
+        return hold(location, old, pointer, cell, 0);
     }
     if mode < 6 {
         core[at] = with_number(old, field, to);
         let register = core[there];
-        return Operand {
-            sound: true,
-            location,
-            old,
-            pointer,
-            register,
-            writes: 1,
-        };
+        return hold(location, old, pointer, register, 1);
     }
     let more = sum(found.0, 1, size);
     core[at] = with_number(old, field, Relative(more));
-    Operand {
-        sound: true,
-        location,
-        old,
-        pointer,
-        register: cell,
-        writes: 1,
-    }
+    hold(location, old, pointer, cell, 1)
 }
 
 // The A operand of the cell at PC.

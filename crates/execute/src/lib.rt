@@ -1,7 +1,6 @@
 // One instruction of the core: operands and execution (01, 'Pointers', 'One step').
 ghost use mathlib.Core.Path.{_≡_};
 ghost use Rattle.execute.specs.Instruction.{executedAt, coreAfter};
-
 use address::evaluate;
 use load_file::offset::Absolute;
 use load_file::sound;

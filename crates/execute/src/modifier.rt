@@ -1,7 +1,6 @@
 // Which number fields meet, by modifier (01, 'One step').
 ghost use mathlib.Core.Path.{_≡_};
 ghost use Rattle.execute.specs.Acts.{metOf};
-
 use crate::word::number;
 use load_file::offset::Relative;
 use load_file::types::pairs_of;

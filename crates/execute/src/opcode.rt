@@ -8,16 +8,15 @@ ghost use lib.ListN.{getD};
 ghost use Rattle.load_file.specs.Cells.{packed, unpacked, withNumber};
 ghost use Rattle.execute.specs.Words.{fieldBy};
 ghost use Rattle.execute.specs.Acts.{sceneOf, valueBy, Set, Answers, Does};
-
+use crate::Executed;
 use crate::address::add;
 use crate::address::sum;
-use crate::modifier::meet;
 use crate::modifier::Met;
+use crate::modifier::meet;
 use crate::word::copy;
 use crate::word::modifier;
 use crate::word::opcode;
 use crate::word::with_number;
-use crate::Executed;
 use load_file::offset::Absolute;
 use load_file::offset::Relative;
 
@@ -30,7 +29,16 @@ fn store(t: u64, t1: u8, n1: Relative, t2: u8, n2: Relative) -> u64
 }
 
 // MOV: a goes to the target; under I opcode and modifier do, too.
-fn moves(core: &mut [u64], size: u32, pc: Absolute, modifier: u8, ra: u64, target: Absolute, rb: u64, w: u32) -> Executed
+fn moves(
+    core: &mut [u64],
+    size: u32,
+    pc: Absolute,
+    modifier: u8,
+    ra: u64,
+    target: Absolute,
+    rb: u64,
+    w: u32,
+) -> Executed
     requires { ⌜ Set size (now core) modifier (pc .0) (target .0) ra rb w ⌝ }
     ensures { λ r. ⌜ Does 1 (sceneOf size modifier (pc .0) 0 ra rb (getD (now (core .entry)) (target .0) 0)) (now (core .entry)) (target .0) w r (now (core .exit)) ⌝ }
 {
@@ -64,7 +72,17 @@ fn value(opcode: u64, size: u32, a: Relative, b: Relative) -> Relative
 }
 
 // ADD, SUB and MUL.
-fn sums(core: &mut [u64], size: u32, pc: Absolute, opcode: u64, modifier: u8, ra: u64, target: Absolute, rb: u64, w: u32) -> Executed
+fn sums(
+    core: &mut [u64],
+    size: u32,
+    pc: Absolute,
+    opcode: u64,
+    modifier: u8,
+    ra: u64,
+    target: Absolute,
+    rb: u64,
+    w: u32,
+) -> Executed
     requires { ⌜ Set size (now core) modifier (pc .0) (target .0) ra rb w × (2 ≤ opcode) × (opcode < 5) ⌝ }
     ensures { λ r. ⌜ Does opcode (sceneOf size modifier (pc .0) 0 ra rb (getD (now (core .entry)) (target .0) 0)) (now (core .entry)) (target .0) w r (now (core .exit)) ⌝ }
 {
@@ -96,7 +114,17 @@ fn part(opcode: u64, t: u64, field: u8, a: Relative, b: Relative) -> u64
 }
 
 // DIV and MOD: a zero b ends the process, the other field is still written.
-fn divides(core: &mut [u64], size: u32, pc: Absolute, opcode: u64, modifier: u8, ra: u64, target: Absolute, rb: u64, w: u32) -> Executed
+fn divides(
+    core: &mut [u64],
+    size: u32,
+    pc: Absolute,
+    opcode: u64,
+    modifier: u8,
+    ra: u64,
+    target: Absolute,
+    rb: u64,
+    w: u32,
+) -> Executed
     requires { ⌜ Set size (now core) modifier (pc .0) (target .0) ra rb w × (5 ≤ opcode) × (opcode < 7) ⌝ }
     ensures { λ r. ⌜ Does opcode (sceneOf size modifier (pc .0) 0 ra rb (getD (now (core .entry)) (target .0) 0)) (now (core .entry)) (target .0) w r (now (core .exit)) ⌝ }
 {
@@ -130,7 +158,16 @@ fn tests(opcode: u64, b1: Relative, b2: Relative) -> bool
 }
 
 // JMZ and JMN.
-fn jumps(size: u32, pc: Absolute, opcode: u64, modifier: u8, jump: Absolute, ra: u64, rb: u64, w: u32) -> Executed
+fn jumps(
+    size: u32,
+    pc: Absolute,
+    opcode: u64,
+    modifier: u8,
+    jump: Absolute,
+    ra: u64,
+    rb: u64,
+    w: u32,
+) -> Executed
     requires { ⌜ (modifier ≤ 6) × (pc .0 < size) × (size ≤ 46341) × (8 ≤ opcode) × (opcode < 10) ⌝ }
     ensures { λ r. ⌜ Answers opcode (sceneOf size modifier (pc .0) (jump .0) ra rb 0) w r ⌝ }
 {
@@ -145,7 +182,17 @@ fn jumps(size: u32, pc: Absolute, opcode: u64, modifier: u8, jump: Absolute, ra:
 }
 
 // DJN: stores b-1 and goes when some result isn't 0.
-fn counts(core: &mut [u64], size: u32, pc: Absolute, modifier: u8, jump: Absolute, ra: u64, target: Absolute, rb: u64, w: u32) -> Executed
+fn counts(
+    core: &mut [u64],
+    size: u32,
+    pc: Absolute,
+    modifier: u8,
+    jump: Absolute,
+    ra: u64,
+    target: Absolute,
+    rb: u64,
+    w: u32,
+) -> Executed
     requires { ⌜ Set size (now core) modifier (pc .0) (target .0) ra rb w ⌝ }
     ensures { λ r. ⌜ Does 10 (sceneOf size modifier (pc .0) (jump .0) ra rb (getD (now (core .entry)) (target .0) 0)) (now (core .entry)) (target .0) w r (now (core .exit)) ⌝ }
 {
@@ -181,7 +228,17 @@ fn passes(opcode: u64, modifier: u8, live: u64, ra: u64, p: Met) -> bool
 }
 
 // CMP, SEQ, SNE and SLT: skip, or go on.
-fn skips(core: &[u64], size: u32, pc: Absolute, opcode: u64, modifier: u8, ra: u64, target: Absolute, rb: u64, w: u32) -> Executed
+fn skips(
+    core: &[u64],
+    size: u32,
+    pc: Absolute,
+    opcode: u64,
+    modifier: u8,
+    ra: u64,
+    target: Absolute,
+    rb: u64,
+    w: u32,
+) -> Executed
     requires { ⌜ Set size (now core) modifier (pc .0) (target .0) ra rb w × (11 ≤ opcode) × (opcode < 15) ⌝ }
     ensures { λ r. ⌜ Does opcode (sceneOf size modifier (pc .0) 0 ra rb (getD (now (core .entry)) (target .0) 0)) (now (core .entry)) (target .0) w r (now (core .entry)) ⌝ }
 {
@@ -197,7 +254,17 @@ fn skips(core: &[u64], size: u32, pc: Absolute, opcode: u64, modifier: u8, ra: u
 }
 
 // The nineteen opcodes but LDP and STP, after both operands, which made w writes.
-pub fn act(core: &mut [u64], size: u32, pc: Absolute, here: u64, jump: Absolute, ra: u64, target: Absolute, rb: u64, w: u32) -> Executed
+pub fn act(
+    core: &mut [u64],
+    size: u32,
+    pc: Absolute,
+    here: u64,
+    jump: Absolute,
+    ra: u64,
+    target: Absolute,
+    rb: u64,
+    w: u32,
+) -> Executed
     requires { ⌜ Set size (now core) (unpacked here .modifier) (pc .0) (target .0) ra rb w ⌝ }
     ensures { λ r. ⌜ Does (unpacked here .opcode) (sceneOf size (unpacked here .modifier) (pc .0) (jump .0) ra rb (getD (now (core .entry)) (target .0) 0))
         (now (core .entry)) (target .0) w r (now (core .exit)) ⌝ }

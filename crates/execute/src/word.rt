@@ -2,7 +2,6 @@
 ghost use mathlib.Core.Path.{_≡_};
 ghost use Rattle.load_file.specs.Cells as spec;
 ghost use Rattle.execute.specs.Words.{fieldBy, copyOf};
-
 use load_file::offset::Relative;
 use load_file::with_a;
 use load_file::with_b;

@@ -28,11 +28,17 @@ refuse-requires c κs = search needs
 returns : tie.Need-returns
 returns c = rw (c .refuse .ensures) (bad-location _ (c .before .before .before .before .before .before .before .args .core .now) _ _ _ (c .before .before .before .before .before .before .before .pre .0) _ (c .before .before .before .before .before .add .ensures .is) (refuted (c .before .before .sound .ensures) (c .before .if1 .taken)))
 
+hold-requires : tie.Need-hold-requires
+hold-requires c κs = search needs
+
 returns-2 : tie.Need-returns-2
-returns-2 c = rw (c .before .before .before .before .before .before .before .pre .2) (hash _ (c .before .before .before .before .before .before .before .args .core .now) _ _ _ (c .before .before .before .before .before .before .before .pre .0) _ (c .before .before .before .before .before .add .ensures .is) (upheld (c .before .before .sound .ensures) (c .before .if1 .left)) (rw (c .before .before .before .before .before .before .before .pre .2) at (c .before .before .before .before .before .before .before .pre .3)) (c .if2 .taken))
+returns-2 c = rw (c .hold .ensures, c .before .before .before .before .before .before .before .before .pre .2) (hash _ (c .before .before .before .before .before .before .before .before .args .core .now) _ _ _ (c .before .before .before .before .before .before .before .before .pre .0) _ (c .before .before .before .before .before .before .add .ensures .is) (upheld (c .before .before .before .sound .ensures) (c .before .before .if1 .left)) (rw (c .before .before .before .before .before .before .before .before .pre .2) at (c .before .before .before .before .before .before .before .before .pre .3)) (c .before .if2 .taken))
+
+hold-requires-2 : tie.Need-hold-requires-2
+hold-requires-2 c κs = search needs
 
 returns-3 : tie.Need-returns-3
-returns-3 c = dollar _ (c .before .before .before .before .before .before .before .args .core .now) _ _ _ (c .before .before .before .before .before .before .before .pre .0) _ (c .before .before .before .before .before .add .ensures .is) (upheld (c .before .before .sound .ensures) (c .before .if1 .left)) (omega arith)
+returns-3 c = rw (c .hold2 .ensures) (dollar _ (c .before .before .before .before .before .before .before .before .args .core .now) _ _ _ (c .before .before .before .before .before .before .before .before .pre .0) _ (c .before .before .before .before .before .before .add .ensures .is) (upheld (c .before .before .before .sound .ensures) (c .before .before .if1 .left)) (omega arith))
 
 pub direct-spec : {M : Type 1} → statement M
 direct-spec =
@@ -45,5 +51,7 @@ direct-spec =
     sound-requires
     refuse-requires
     returns
+    hold-requires
     returns-2
+    hold-requires-2
     returns-3)

@@ -72,8 +72,11 @@ refuse-requires-2 c κs = search needs
 returns-2 : tie.Need-returns-2
 returns-2 c = rw (c .refuse2 .ensures) (bad-pointer _ (c .before .before .before .before .before .before .before .before .before .before .before .before .before .before .args .core .now) _ _ _ (c .before .before .before .before .before .before .before .before .before .before .before .before .before .before .pre .0) _ (c .before .before .before .before .before .before .before .before .before .before .before .before .add .ensures .is) (c .before .before .before .before .before .before .before .before .before .before .before .before .before .before .pre .1) (c .before .before .before .before .before .before .before .before .before .before .before .before .before .before .pre .2) (sound-old (c .before .before .before .before .before .before .before .before)) _ _ _ (c .before .before .before .before .before .before .before .number .ensures) (c .before .before .before .before .before .before .aim .ensures .0) (c .before .before .before .before .before .add2 .ensures .is) (refuted (c .before .before .sound2 .ensures) (c .before .if2 .taken)))
 
+hold-requires : tie.Need-hold-requires
+hold-requires c κs = search needs
+
 returns-3 : tie.Need-returns-3
-returns-3 c = plain _ (c .before .before .before .before .before .before .before .before .before .before .before .before .before .before .args .core .now) _ _ _ (c .before .before .before .before .before .before .before .before .before .before .before .before .before .before .pre .0) _ (c .before .before .before .before .before .before .before .before .before .before .before .before .add .ensures .is) (c .before .before .before .before .before .before .before .before .before .before .before .before .before .before .pre .1) (c .before .before .before .before .before .before .before .before .before .before .before .before .before .before .pre .2) (sound-old (c .before .before .before .before .before .before .before .before)) _ _ _ (c .before .before .before .before .before .before .before .number .ensures) (c .before .before .before .before .before .before .aim .ensures .0) (c .before .before .before .before .before .add2 .ensures .is) (upheld (c .before .before .sound2 .ensures) (c .before .if2 .left)) (c .if3 .taken)
+returns-3 c = rw (c .hold .ensures) (plain _ (c .before .before .before .before .before .before .before .before .before .before .before .before .before .before .before .args .core .now) _ _ _ (c .before .before .before .before .before .before .before .before .before .before .before .before .before .before .before .pre .0) _ (c .before .before .before .before .before .before .before .before .before .before .before .before .before .add .ensures .is) (c .before .before .before .before .before .before .before .before .before .before .before .before .before .before .before .pre .1) (c .before .before .before .before .before .before .before .before .before .before .before .before .before .before .before .pre .2) (sound-old (c .before .before .before .before .before .before .before .before .before)) _ _ _ (c .before .before .before .before .before .before .before .before .number .ensures) (c .before .before .before .before .before .before .before .aim .ensures .0) (c .before .before .before .before .before .before .add2 .ensures .is) (upheld (c .before .before .before .sound2 .ensures) (c .before .before .if2 .left)) (c .before .if3 .taken))
 
 with-number-requires : tie.Need-with-number-requires
 with-number-requires c κs = search needs
@@ -90,11 +93,14 @@ mul-register c = search needs
 slice-read-register : tie.Need-slice-read-register
 slice-read-register c = simp length-set (omega arith)
 
+hold-requires-2 : tie.Need-hold-requires-2
+hold-requires-2 c κs = search needs
+
 same-length : tie.Need-same-length
 same-length c = search needs
 
 returns-4 : tie.Need-returns-4
-returns-4 c = lower _ (c .before .before .before .before .before .before .before .before .before .before .before .before .before .before .before .before .before .args .core .now) _ _ _ (c .before .before .before .before .before .before .before .before .before .before .before .before .before .before .before .before .before .pre .0) _ (c .before .before .before .before .before .before .before .before .before .before .before .before .before .before .before .add .ensures .is) (c .before .before .before .before .before .before .before .before .before .before .before .before .before .before .before .before .before .pre .1) (c .before .before .before .before .before .before .before .before .before .before .before .before .before .before .before .before .before .pre .2) (sound-old (c .before .before .before .before .before .before .before .before .before .before .before)) _ _ _ (c .before .before .before .before .before .before .before .before .before .before .number .ensures) (c .before .before .before .before .before .before .before .before .before .aim .ensures .0) (c .before .before .before .before .before .before .before .before .add2 .ensures .is) (upheld (c .before .before .before .before .before .sound2 .ensures) (c .before .before .before .before .if2 .left)) _ _ refl (c .before .before .before .if3 .left) (c .before .before .if4 .taken) (c .before .with-number .ensures)
+returns-4 c = rw (c .hold2 .ensures) (lower _ (c .before .before .before .before .before .before .before .before .before .before .before .before .before .before .before .before .before .before .args .core .now) _ _ _ (c .before .before .before .before .before .before .before .before .before .before .before .before .before .before .before .before .before .before .pre .0) _ (c .before .before .before .before .before .before .before .before .before .before .before .before .before .before .before .before .add .ensures .is) (c .before .before .before .before .before .before .before .before .before .before .before .before .before .before .before .before .before .before .pre .1) (c .before .before .before .before .before .before .before .before .before .before .before .before .before .before .before .before .before .before .pre .2) (sound-old (c .before .before .before .before .before .before .before .before .before .before .before .before)) _ _ _ (c .before .before .before .before .before .before .before .before .before .before .before .number .ensures) (c .before .before .before .before .before .before .before .before .before .before .aim .ensures .0) (c .before .before .before .before .before .before .before .before .before .add2 .ensures .is) (upheld (c .before .before .before .before .before .before .sound2 .ensures) (c .before .before .before .before .before .if2 .left)) _ _ refl (c .before .before .before .before .if3 .left) (c .before .before .before .if4 .taken) (c .before .before .with-number .ensures))
 
 sum-requires : tie.Need-sum-requires
 sum-requires c κs = (found-below (c .before .before .before .before .before .before .before .before), search needs, search needs)
@@ -108,11 +114,14 @@ mul-core-2 c = search needs
 slice-write-core-2 : tie.Need-slice-write-core-2
 slice-write-core-2 c = search needs
 
+hold-requires-3 : tie.Need-hold-requires-3
+hold-requires-3 c κs = search needs
+
 same-length-2 : tie.Need-same-length-2
 same-length-2 c = search needs
 
 returns-5 : tie.Need-returns-5
-returns-5 c = raise _ (c .before .before .before .before .before .before .before .before .before .before .before .before .before .before .before .before .before .args .core .now) _ _ _ (c .before .before .before .before .before .before .before .before .before .before .before .before .before .before .before .before .before .pre .0) _ (c .before .before .before .before .before .before .before .before .before .before .before .before .before .before .before .add .ensures .is) (c .before .before .before .before .before .before .before .before .before .before .before .before .before .before .before .before .before .pre .1) (c .before .before .before .before .before .before .before .before .before .before .before .before .before .before .before .before .before .pre .2) (sound-old (c .before .before .before .before .before .before .before .before .before .before .before)) _ _ _ (c .before .before .before .before .before .before .before .before .before .before .number .ensures) (c .before .before .before .before .before .before .before .before .before .aim .ensures .0) (c .before .before .before .before .before .before .before .before .add2 .ensures .is) (upheld (c .before .before .before .before .before .sound2 .ensures) (c .before .before .before .before .if2 .left)) _ _ refl (c .before .before .if4 .left) _ (c .before .sum .ensures .is) (c .with-number2 .ensures)
+returns-5 c = rw (c .hold3 .ensures) (raise _ (c .before .before .before .before .before .before .before .before .before .before .before .before .before .before .before .before .before .before .args .core .now) _ _ _ (c .before .before .before .before .before .before .before .before .before .before .before .before .before .before .before .before .before .before .pre .0) _ (c .before .before .before .before .before .before .before .before .before .before .before .before .before .before .before .before .add .ensures .is) (c .before .before .before .before .before .before .before .before .before .before .before .before .before .before .before .before .before .before .pre .1) (c .before .before .before .before .before .before .before .before .before .before .before .before .before .before .before .before .before .before .pre .2) (sound-old (c .before .before .before .before .before .before .before .before .before .before .before .before)) _ _ _ (c .before .before .before .before .before .before .before .before .before .before .before .number .ensures) (c .before .before .before .before .before .before .before .before .before .before .aim .ensures .0) (c .before .before .before .before .before .before .before .before .before .add2 .ensures .is) (upheld (c .before .before .before .before .before .before .sound2 .ensures) (c .before .before .before .before .before .if2 .left)) _ _ refl (c .before .before .before .if4 .left) _ (c .before .before .sum .ensures .is) (c .before .with-number2 .ensures))
 
 pub indirect-spec : {M : Type 1} → statement M
 indirect-spec =
@@ -135,17 +144,20 @@ indirect-spec =
     sound-requires-2
     refuse-requires-2
     returns-2
+    hold-requires
     returns-3
     with-number-requires
     mul-core
     slice-write-core
     mul-register
     slice-read-register
+    hold-requires-2
     same-length
     returns-4
     sum-requires
     with-number-requires-2
     mul-core-2
     slice-write-core-2
+    hold-requires-3
     same-length-2
     returns-5)

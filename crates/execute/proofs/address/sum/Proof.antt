@@ -3,7 +3,6 @@
 use borrow.Author.Needs.{needs}
 use Rattle.execute.proofs.address.sum.Statement.{statement}
 use Rattle.execute.proofs.address.sum.Tie as tie
-use native.Mathlib.Omega.{arith}
 use Rattle.execute.proofs.Cells.{sum-small, sum-wrap}
 
 add-whole : tie.Need-add-whole
