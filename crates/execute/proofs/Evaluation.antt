@@ -54,10 +54,10 @@ module _ (size : ℕ) (core : List ℕ) (pc here : ℕ) (f : Fetched size core p
     pub location-below : a .location .0 < size
     location-below = rw a-is (ahead-below _ _ (f .place))
 
-    module _ (b : Operand) (c2 : List ℕ) (mode : ℕ) (em : mode ≡ unpacked here .«b_mode») (gb : Gives size c1 pc mode (fetched c1 pc .b .0) b c2) where
+    module _ (b : Operand) (c2 : List ℕ) (gb : Gives size c1 pc (unpacked here .«b_mode») (fetched c1 pc .b .0) b c2) where
       -- B's operand is the machine's
       b-gives : Gives size (aOperand size core pc .core) pc (fetched core pc .«b_mode») (fetched (aOperand size core pc .core) pc .b .0) b c2
-      b-gives = rw (after-a, em, f .is) at gb
+      b-gives = rw (after-a, f .is) at gb
 
       b-opened : b .sound ≡ true → (b ≡ evaluated (aOperand size core pc .core) (ahead size pc (fetched (aOperand size core pc .core) pc .b .0)) (bOperand size core pc)) × (c2 ≡ bOperand size core pc .core)
       b-opened g = opened size (aOperand size core pc .core) pc _ _ b c2 b-gives g

@@ -207,10 +207,11 @@ module _ (size : ℕ) (core : List ℕ) (pc mode n : ℕ) where
 
       module _ (s : soundWord size (getD core pointer 0) ≡ true) (l : List ℕ) (word : ℕ) (el : l ≡ set core location word) where
         pub lower : 4 ≤ mode → mode < 6 → word ≡ packed (withNumber (fieldBy (mode % 2)) to (unpacked (getD core location 0)))
-            → Gives (held (absolute location) (getD core location 0) (absolute pointer) (getD l pointer 0) 1) l
-        lower p q ew =
+            → (register : ℕ) → register ≡ getD (set core location word) pointer 0
+            → Gives (held (absolute location) (getD core location 0) (absolute pointer) register 1) l
+        lower p q ew register er =
             assembled h pointer points s
-            (sym (ap packed (register-lowers t ∙ ap (λ (j : ℕ). unpacked (getD (changed core (ahead size pc n) field (less size found)) j 0)) points ∙ ap (λ (x : List ℕ). unpacked (getD x pointer 0)) (sym lowered))
+            (er ∙ ap (λ (x : List ℕ). getD x pointer 0) (sym el) ∙ sym (ap packed (register-lowers t ∙ ap (λ (j : ℕ). unpacked (getD (changed core (ahead size pc n) field (less size found)) j 0)) points ∙ ap (λ (x : List ℕ). unpacked (getD x pointer 0)) (sym lowered))
             ∙ whole size (getD l pointer 0) sound-there))
             (writes-are t) (lowered ∙ core-lowers t)
           where
@@ -230,9 +231,10 @@ module _ (size : ℕ) (core : List ℕ) (pc mode n : ℕ) where
                 (with-sound (fieldBy (mode % 2)) size (getD core location 0) to (k .valid) h (rw to-is (ahead-below _ _ (k .place)))) s)
 
         pub raise : 6 ≤ mode → (up : ℕ) → up ≡ more size seen → word ≡ packed (withNumber (fieldBy (mode % 2)) up (unpacked (getD core location 0)))
-            → Gives (held (absolute location) (getD core location 0) (absolute pointer) (getD core pointer 0) 1) l
-        raise p up eu ew =
-            assembled h pointer points s (plainly h pointer points s (register-raises t)) (writes-are t)
+            → (register : ℕ) → register ≡ getD core pointer 0
+            → Gives (held (absolute location) (getD core location 0) (absolute pointer) register 1) l
+        raise p up eu ew register er =
+            assembled h pointer points s (er ∙ plainly h pointer points s (register-raises t)) (writes-are t)
             (raised ∙ core-raises t)
           where
             t : getD turns mode keeps ≡ raises

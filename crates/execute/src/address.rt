@@ -2,8 +2,8 @@
 ghost use mathlib.Core.Path.{_≡_};
 ghost use mathlib.Core.Bool.{true};
 ghost use Prim.Native.Nat.{_<_, _≤_};
-ghost use lib.ListN.{getD};
-ghost use Rattle.load_file.specs.Cells.{soundWord};
+ghost use lib.ListN.{length, getD, set};
+ghost use Rattle.load_file.specs.Cells.{unpacked, soundWord};
 ghost use Rattle.machine.specs.Pointers as spec;
 ghost use Rattle.machine.specs.Instruction.{fetched};
 ghost use Rattle.execute.specs.Words.{Reduced};
@@ -115,6 +115,26 @@ fn aim(size: u32, mode: u64, found: Relative) -> Relative
     found
 }
 
+// The decrement, then the register.
+fn lower(core: &mut [u64], at: usize, there: usize, lowered: u64) -> u64
+    requires { ⌜ (at < length (now core)) × (there < length (now core)) ⌝ }
+    ensures { λ r. ⌜ (r ≡ getD (set (now (core .entry)) at lowered) there 0) × (now (core .exit) ≡ set (now (core .entry)) at lowered) ⌝ }
+{
+    core[at] = lowered;
+    let register = core[there];
+    register
+}
+
+// The register, then the increment.
+fn raise(core: &mut [u64], at: usize, there: usize, raised: u64) -> u64
+    requires { ⌜ (at < length (now core)) × (there < length (now core)) ⌝ }
+    ensures { λ r. ⌜ (r ≡ getD (now (core .entry)) there 0) × (now (core .exit) ≡ set (now (core .entry)) at raised) ⌝ }
+{
+    let copied = core[there];
+    core[at] = raised;
+    copied
+}
+
 // The six modes that go through the A number (even) or the B number (odd) of the cell at the location.
 fn indirect(core: &mut [u64], size: u32, pc: Absolute, mode: u64, n: Relative) -> Operand
     requires { ⌜ Ready size (now core) (pc .0) (n .0) × (2 ≤ mode) × (mode < 8) ⌝ }
@@ -139,13 +159,12 @@ fn indirect(core: &mut [u64], size: u32, pc: Absolute, mode: u64, n: Relative) -
         return hold(location, old, pointer, cell, 0);
     }
     if mode < 6 {
-        core[at] = with_number(old, field, to);
-        let register = core[there];
+        let register = lower(core, at, there, with_number(old, field, to));
         return hold(location, old, pointer, register, 1);
     }
     let more = sum(found.0, 1, size);
-    core[at] = with_number(old, field, Relative(more));
-    hold(location, old, pointer, cell, 1)
+    let register = raise(core, at, there, with_number(old, field, Relative(more)));
+    hold(location, old, pointer, register, 1)
 }
 
 // The A operand of the cell at PC.
@@ -163,11 +182,12 @@ fn a_operand(core: &mut [u64], size: u32, pc: Absolute, here: u64) -> Operand
 }
 
 // The B operand of that cell, its number read again from the core.
-fn b_operand(core: &mut [u64], size: u32, pc: Absolute, mode: u64) -> Operand
-    requires { ⌜ Fetched size (now core) (pc .0) (getD (now core) (pc .0) 0) × (mode < 8) ⌝ }
-    ensures { λ r. ⌜ (r ≡ operandOf size (now (core .entry)) (pc .0) mode (fetched (now (core .entry)) (pc .0) .b .0))
-        × (now (core .exit) ≡ coreOf size (now (core .entry)) (pc .0) mode (fetched (now (core .entry)) (pc .0) .b .0)) ⌝ }
+fn b_operand(core: &mut [u64], size: u32, pc: Absolute, here: u64) -> Operand
+    requires { ⌜ Fetched size (now core) (pc .0) (getD (now core) (pc .0) 0) ⌝ }
+    ensures { λ r. ⌜ (r ≡ operandOf size (now (core .entry)) (pc .0) (unpacked here .«b_mode») (fetched (now (core .entry)) (pc .0) .b .0))
+        × (now (core .exit) ≡ coreOf size (now (core .entry)) (pc .0) (unpacked here .«b_mode») (fetched (now (core .entry)) (pc .0) .b .0)) ⌝ }
 {
+    let mode = b_mode(here);
     let at = pc.0 as usize;
     let again = core[at];
     let n = number(again, 1);
@@ -200,7 +220,7 @@ pub fn evaluate(core: &mut [u64], size: u32, pc: Absolute, here: u64) -> Operand
     if !a.sound {
         return refuse_both();
     }
-    let b = b_operand(core, size, pc, b_mode(here));
+    let b = b_operand(core, size, pc, here);
     if !b.sound {
         let location = a.location;
         let at = location.0 as usize;
@@ -209,12 +229,13 @@ pub fn evaluate(core: &mut [u64], size: u32, pc: Absolute, here: u64) -> Operand
     }
     let jump = a.pointer;
     let target = b.pointer;
+    let writes = a.writes + b.writes;
     Operands {
         sound: true,
         jump,
         ra: a.register,
         target,
         rb: b.register,
-        writes: a.writes + b.writes,
+        writes,
     }
 }

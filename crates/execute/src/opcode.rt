@@ -52,7 +52,8 @@ fn moves(
     let p = meet(modifier, ra, rb);
     let a1 = p.a1;
     let a2 = p.a2;
-    core[at] = store(t, p.t1, a1, p.t2, a2);
+    let moved = store(t, p.t1, a1, p.t2, a2);
+    core[at] = moved;
     Executed::Goes(next.0, w + 1)
 }
 
@@ -196,14 +197,14 @@ fn counts(
     requires { ⌜ Set size (now core) modifier (pc .0) (target .0) ra rb w ⌝ }
     ensures { λ r. ⌜ Does 10 (sceneOf size modifier (pc .0) (jump .0) ra rb (getD (now (core .entry)) (target .0) 0)) (now (core .entry)) (target .0) w r (now (core .exit)) ⌝ }
 {
-    let p = meet(modifier, ra, rb);
-    let b1 = p.b1;
-    let b2 = p.b2;
+    let at = target.0 as usize;
+    let live = core[at];
+    let met = meet(modifier, ra, rb);
+    let b1 = met.b1;
+    let b2 = met.b2;
     let n1 = sum(b1.0, size - 1, size);
     let n2 = sum(b2.0, size - 1, size);
-    let at = target.0 as usize;
-    let t = core[at];
-    core[at] = store(t, p.t1, Relative(n1), p.t2, Relative(n2));
+    core[at] = store(live, met.t1, Relative(n1), met.t2, Relative(n2));
     if (n1 != 0) | (n2 != 0) {
         return Executed::Goes(jump.0, w + 1);
     }

@@ -25,11 +25,8 @@ same-length c = search needs
 returns : tie.Need-returns
 returns c = rw (c .refuse-both .ensures) (no-a _ (c .before .before .before .before .before .before .before .before .args .core .now) _ _ (c .before .before .before .before .before .before .before .before .pre) _ _ (c .before .before .before .before .before .a-operand .ensures) (not-true _ (c .before .if1 .taken)))
 
-b-mode-requires : tie.Need-b-mode-requires
-b-mode-requires c κs = search needs
-
 b-operand-requires : tie.Need-b-operand-requires
-b-operand-requires c κs = (again _ (c .before .before .before .before .before .before .before .before .before .args .core .now) _ _ (c .before .before .before .before .before .before .before .before .before .pre) _ _ (c .before .before .before .before .before .before .a-operand .ensures) (a-sound (c .before .before)), rw (c .b-mode .ensures) (omega arith))
+b-operand-requires c κs = again _ (c .before .before .before .before .before .before .before .before .args .core .now) _ _ (c .before .before .before .before .before .before .before .before .pre) _ _ (c .before .before .before .before .before .a-operand .ensures) (a-sound (c .before))
 
 cast-at : tie.Need-cast-at
 cast-at c = search needs
@@ -38,25 +35,25 @@ mul-core : tie.Need-mul-core
 mul-core c = search needs
 
 slice-write-core : tie.Need-slice-write-core
-slice-write-core c = let h = location-below _ (c .before .before .before .before .before .before .before .before .before .before .before .before .before .before .before .before .args .core .now) _ _ (c .before .before .before .before .before .before .before .before .before .before .before .before .before .before .before .before .pre) _ _ (c .before .before .before .before .before .before .before .before .before .before .before .before .before .a-operand .ensures) (a-sound (c .before .before .before .before .before .before .before .before .before)) in let l = length-refused _ (c .before .before .before .before .before .before .before .before .before .before .before .before .before .before .before .before .args .core .now) _ _ (c .before .before .before .before .before .before .before .before .before .before .before .before .before .before .before .before .pre) _ _ (c .before .before .before .before .before .before .before .before .before .before .before .before .before .a-operand .ensures) (a-sound (c .before .before .before .before .before .before .before .before .before)) _ _ _ (c .before .before .before .before .before .before .before .b-mode .ensures) (c .before .before .before .before .before .before .b-operand .ensures) (not-true _ (c .before .before .if2 .taken)) in omega arith
+slice-write-core c = let h = location-below _ (c .before .before .before .before .before .before .before .before .before .before .before .before .before .before .before .args .core .now) _ _ (c .before .before .before .before .before .before .before .before .before .before .before .before .before .before .before .pre) _ _ (c .before .before .before .before .before .before .before .before .before .before .before .before .a-operand .ensures) (a-sound (c .before .before .before .before .before .before .before .before)) in let l = length-refused _ (c .before .before .before .before .before .before .before .before .before .before .before .before .before .before .before .args .core .now) _ _ (c .before .before .before .before .before .before .before .before .before .before .before .before .before .before .before .pre) _ _ (c .before .before .before .before .before .before .before .before .before .before .before .before .a-operand .ensures) (a-sound (c .before .before .before .before .before .before .before .before)) _ _ (c .before .before .before .before .before .before .b-operand .ensures) (not-true _ (c .before .before .if2 .taken)) in omega arith
 
 refuse-both-requires-2 : tie.Need-refuse-both-requires-2
 refuse-both-requires-2 c κs = search needs
 
 same-length-2 : tie.Need-same-length-2
-same-length-2 c = simp length-set (length-refused _ (c .before .before .before .before .before .before .before .before .before .before .before .before .before .before .before .before .before .args .core .now) _ _ (c .before .before .before .before .before .before .before .before .before .before .before .before .before .before .before .before .before .pre) _ _ (c .before .before .before .before .before .before .before .before .before .before .before .before .before .before .a-operand .ensures) (a-sound (c .before .before .before .before .before .before .before .before .before .before)) _ _ _ (c .before .before .before .before .before .before .before .before .b-mode .ensures) (c .before .before .before .before .before .before .before .b-operand .ensures) (not-true _ (c .before .before .before .if2 .taken)))
+same-length-2 c = simp length-set (length-refused _ (c .before .before .before .before .before .before .before .before .before .before .before .before .before .before .before .before .args .core .now) _ _ (c .before .before .before .before .before .before .before .before .before .before .before .before .before .before .before .before .pre) _ _ (c .before .before .before .before .before .before .before .before .before .before .before .before .before .a-operand .ensures) (a-sound (c .before .before .before .before .before .before .before .before .before)) _ _ (c .before .before .before .before .before .before .before .b-operand .ensures) (not-true _ (c .before .before .before .if2 .taken)))
 
 returns-2 : tie.Need-returns-2
-returns-2 c = rw (c .refuse-both2 .ensures) (no-b _ (c .before .before .before .before .before .before .before .before .before .before .before .before .before .before .before .before .before .args .core .now) _ _ (c .before .before .before .before .before .before .before .before .before .before .before .before .before .before .before .before .before .pre) _ _ (c .before .before .before .before .before .before .before .before .before .before .before .before .before .before .a-operand .ensures) (a-sound (c .before .before .before .before .before .before .before .before .before .before)) _ _ _ (c .before .before .before .before .before .before .before .before .b-mode .ensures) (c .before .before .before .before .before .before .before .b-operand .ensures) (not-true _ (c .before .before .before .if2 .taken)))
+returns-2 c = rw (c .refuse-both2 .ensures) (no-b _ (c .before .before .before .before .before .before .before .before .before .before .before .before .before .before .before .before .args .core .now) _ _ (c .before .before .before .before .before .before .before .before .before .before .before .before .before .before .before .before .pre) _ _ (c .before .before .before .before .before .before .before .before .before .before .before .before .before .a-operand .ensures) (a-sound (c .before .before .before .before .before .before .before .before .before)) _ _ (c .before .before .before .before .before .before .before .b-operand .ensures) (not-true _ (c .before .before .before .if2 .taken)))
 
-add-t19 : tie.Need-add-t19
-add-t19 c = let h = writes-both _ (c .before .before .before .before .before .before .before .before .before .before .before .before .before .before .before .before .before .before .args .core .now) _ _ (c .before .before .before .before .before .before .before .before .before .before .before .before .before .before .before .before .before .before .pre) _ _ (c .before .before .before .before .before .before .before .before .before .before .before .before .before .before .before .a-operand .ensures) (a-sound (c .before .before .before .before .before .before .before .before .before .before .before)) _ _ _ (c .before .before .before .before .before .before .before .before .before .b-mode .ensures) (c .before .before .before .before .before .before .before .before .b-operand .ensures) (not-false _ (c .before .before .before .before .if2 .left)) in record { fits = omega arith }
+add-writes : tie.Need-add-writes
+add-writes c = let h = writes-both _ (c .before .before .before .before .before .before .before .before .before .before .before .before .before .before .before .before .before .args .core .now) _ _ (c .before .before .before .before .before .before .before .before .before .before .before .before .before .before .before .before .before .pre) _ _ (c .before .before .before .before .before .before .before .before .before .before .before .before .before .before .a-operand .ensures) (a-sound (c .before .before .before .before .before .before .before .before .before .before)) _ _ (c .before .before .before .before .before .before .before .before .b-operand .ensures) (not-false _ (c .before .before .before .before .if2 .left)) in record { fits = omega arith }
 
 same-length-3 : tie.Need-same-length-3
 same-length-3 c = search needs
 
 returns-3 : tie.Need-returns-3
-returns-3 c = yes-both _ (c .before .before .before .before .before .before .before .before .before .before .before .before .before .before .before .before .before .before .args .core .now) _ _ (c .before .before .before .before .before .before .before .before .before .before .before .before .before .before .before .before .before .before .pre) _ _ (c .before .before .before .before .before .before .before .before .before .before .before .before .before .before .before .a-operand .ensures) (a-sound (c .before .before .before .before .before .before .before .before .before .before .before)) _ _ _ (c .before .before .before .before .before .before .before .before .before .b-mode .ensures) (c .before .before .before .before .before .before .before .before .b-operand .ensures) (not-false _ (c .before .before .before .before .if2 .left))
+returns-3 c = yes-both _ (c .before .before .before .before .before .before .before .before .before .before .before .before .before .before .before .before .before .args .core .now) _ _ (c .before .before .before .before .before .before .before .before .before .before .before .before .before .before .before .before .before .pre) _ _ (c .before .before .before .before .before .before .before .before .before .before .before .before .before .before .a-operand .ensures) (a-sound (c .before .before .before .before .before .before .before .before .before .before)) _ _ (c .before .before .before .before .before .before .before .before .b-operand .ensures) (not-false _ (c .before .before .before .before .if2 .left))
 
 pub evaluate-spec : {M : Type 1} → statement M
 evaluate-spec =
@@ -66,7 +63,6 @@ evaluate-spec =
     refuse-both-requires
     same-length
     returns
-    b-mode-requires
     b-operand-requires
     cast-at
     mul-core
@@ -74,6 +70,6 @@ evaluate-spec =
     refuse-both-requires-2
     same-length-2
     returns-2
-    add-t19
+    add-writes
     same-length-3
     returns-3)

@@ -3,11 +3,10 @@
 use borrow.Author.Needs.{needs}
 use Rattle.execute.proofs.address.indirect.Statement.{statement}
 use Rattle.execute.proofs.address.indirect.Tie as tie
-use mathlib.Core.Path.{_≡_, refl}
+use mathlib.Core.Path.{_≡_}
 use mathlib.Core.Bool.{true}
 use Prim.Native.Nat.{_<_, _%_}
-use native.Mathlib.Omega.{arith}
-use lib.ListN.{getD, length-set}
+use lib.ListN.{getD}
 use Rattle.execute.specs.Words.{fieldBy}
 use Rattle.laws.proofs.Tests.{refuted, upheld}
 use Rattle.load_file.specs.Cells.{soundWord}
@@ -81,17 +80,8 @@ returns-3 c = rw (c .hold .ensures) (plain _ (c .before .before .before .before 
 with-number-requires : tie.Need-with-number-requires
 with-number-requires c κs = search needs
 
-mul-core : tie.Need-mul-core
-mul-core c = search needs
-
-slice-write-core : tie.Need-slice-write-core
-slice-write-core c = search needs
-
-mul-register : tie.Need-mul-register
-mul-register c = search needs
-
-slice-read-register : tie.Need-slice-read-register
-slice-read-register c = simp length-set (omega arith)
+lower-requires : tie.Need-lower-requires
+lower-requires c κs = search needs
 
 hold-requires-2 : tie.Need-hold-requires-2
 hold-requires-2 c κs = search needs
@@ -100,7 +90,7 @@ same-length : tie.Need-same-length
 same-length c = search needs
 
 returns-4 : tie.Need-returns-4
-returns-4 c = rw (c .hold2 .ensures) (lower _ (c .before .before .before .before .before .before .before .before .before .before .before .before .before .before .before .before .before .before .args .core .now) _ _ _ (c .before .before .before .before .before .before .before .before .before .before .before .before .before .before .before .before .before .before .pre .0) _ (c .before .before .before .before .before .before .before .before .before .before .before .before .before .before .before .before .add .ensures .is) (c .before .before .before .before .before .before .before .before .before .before .before .before .before .before .before .before .before .before .pre .1) (c .before .before .before .before .before .before .before .before .before .before .before .before .before .before .before .before .before .before .pre .2) (sound-old (c .before .before .before .before .before .before .before .before .before .before .before .before)) _ _ _ (c .before .before .before .before .before .before .before .before .before .before .before .number .ensures) (c .before .before .before .before .before .before .before .before .before .before .aim .ensures .0) (c .before .before .before .before .before .before .before .before .before .add2 .ensures .is) (upheld (c .before .before .before .before .before .before .sound2 .ensures) (c .before .before .before .before .before .if2 .left)) _ _ refl (c .before .before .before .before .if3 .left) (c .before .before .before .if4 .taken) (c .before .before .with-number .ensures))
+returns-4 c = rw (c .hold2 .ensures) (lower _ (c .before .before .before .before .before .before .before .before .before .before .before .before .before .before .before .before .before .before .before .before .before .args .core .now) _ _ _ (c .before .before .before .before .before .before .before .before .before .before .before .before .before .before .before .before .before .before .before .before .before .pre .0) _ (c .before .before .before .before .before .before .before .before .before .before .before .before .before .before .before .before .before .before .before .add .ensures .is) (c .before .before .before .before .before .before .before .before .before .before .before .before .before .before .before .before .before .before .before .before .before .pre .1) (c .before .before .before .before .before .before .before .before .before .before .before .before .before .before .before .before .before .before .before .before .before .pre .2) (sound-old (c .before .before .before .before .before .before .before .before .before .before .before .before .before .before .before)) _ _ _ (c .before .before .before .before .before .before .before .before .before .before .before .before .before .before .number .ensures) (c .before .before .before .before .before .before .before .before .before .before .before .before .before .aim .ensures .0) (c .before .before .before .before .before .before .before .before .before .before .before .before .add2 .ensures .is) (upheld (c .before .before .before .before .before .before .before .before .before .sound2 .ensures) (c .before .before .before .before .before .before .before .before .if2 .left)) _ _ (c .before .before .before .lower .ensures .1) (c .before .before .before .before .before .before .before .if3 .left) (c .before .before .before .before .before .before .if4 .taken) (c .before .before .before .before .with-number .ensures) _ (c .before .before .before .lower .ensures .0))
 
 sum-requires : tie.Need-sum-requires
 sum-requires c κs = (found-below (c .before .before .before .before .before .before .before .before), search needs, search needs)
@@ -108,11 +98,8 @@ sum-requires c κs = (found-below (c .before .before .before .before .before .be
 with-number-requires-2 : tie.Need-with-number-requires-2
 with-number-requires-2 c κs = search needs
 
-mul-core-2 : tie.Need-mul-core-2
-mul-core-2 c = search needs
-
-slice-write-core-2 : tie.Need-slice-write-core-2
-slice-write-core-2 c = search needs
+raise-requires : tie.Need-raise-requires
+raise-requires c κs = search needs
 
 hold-requires-3 : tie.Need-hold-requires-3
 hold-requires-3 c κs = search needs
@@ -121,7 +108,7 @@ same-length-2 : tie.Need-same-length-2
 same-length-2 c = search needs
 
 returns-5 : tie.Need-returns-5
-returns-5 c = rw (c .hold3 .ensures) (raise _ (c .before .before .before .before .before .before .before .before .before .before .before .before .before .before .before .before .before .before .args .core .now) _ _ _ (c .before .before .before .before .before .before .before .before .before .before .before .before .before .before .before .before .before .before .pre .0) _ (c .before .before .before .before .before .before .before .before .before .before .before .before .before .before .before .before .add .ensures .is) (c .before .before .before .before .before .before .before .before .before .before .before .before .before .before .before .before .before .before .pre .1) (c .before .before .before .before .before .before .before .before .before .before .before .before .before .before .before .before .before .before .pre .2) (sound-old (c .before .before .before .before .before .before .before .before .before .before .before .before)) _ _ _ (c .before .before .before .before .before .before .before .before .before .before .before .number .ensures) (c .before .before .before .before .before .before .before .before .before .before .aim .ensures .0) (c .before .before .before .before .before .before .before .before .before .add2 .ensures .is) (upheld (c .before .before .before .before .before .before .sound2 .ensures) (c .before .before .before .before .before .if2 .left)) _ _ refl (c .before .before .before .if4 .left) _ (c .before .before .sum .ensures .is) (c .before .with-number2 .ensures))
+returns-5 c = rw (c .hold3 .ensures) (raise _ (c .before .before .before .before .before .before .before .before .before .before .before .before .before .before .before .before .before .before .before .before .before .before .args .core .now) _ _ _ (c .before .before .before .before .before .before .before .before .before .before .before .before .before .before .before .before .before .before .before .before .before .before .pre .0) _ (c .before .before .before .before .before .before .before .before .before .before .before .before .before .before .before .before .before .before .before .before .add .ensures .is) (c .before .before .before .before .before .before .before .before .before .before .before .before .before .before .before .before .before .before .before .before .before .before .pre .1) (c .before .before .before .before .before .before .before .before .before .before .before .before .before .before .before .before .before .before .before .before .before .before .pre .2) (sound-old (c .before .before .before .before .before .before .before .before .before .before .before .before .before .before .before .before)) _ _ _ (c .before .before .before .before .before .before .before .before .before .before .before .before .before .before .before .number .ensures) (c .before .before .before .before .before .before .before .before .before .before .before .before .before .before .aim .ensures .0) (c .before .before .before .before .before .before .before .before .before .before .before .before .before .add2 .ensures .is) (upheld (c .before .before .before .before .before .before .before .before .before .before .sound2 .ensures) (c .before .before .before .before .before .before .before .before .before .if2 .left)) _ _ (c .before .before .before .raise .ensures .1) (c .before .before .before .before .before .before .before .if4 .left) _ (c .before .before .before .before .before .before .sum .ensures .is) (c .before .before .before .before .with-number2 .ensures) _ (c .before .before .before .raise .ensures .0))
 
 pub indirect-spec : {M : Type 1} → statement M
 indirect-spec =
@@ -147,17 +134,13 @@ indirect-spec =
     hold-requires
     returns-3
     with-number-requires
-    mul-core
-    slice-write-core
-    mul-register
-    slice-read-register
+    lower-requires
     hold-requires-2
     same-length
     returns-4
     sum-requires
     with-number-requires-2
-    mul-core-2
-    slice-write-core-2
+    raise-requires
     hold-requires-3
     same-length-2
     returns-5)

@@ -7,6 +7,15 @@ use mathlib.Core.Path.{refl}
 use native.Mathlib.Omega.{arith}
 use Rattle.execute.proofs.Acting.{below, counted}
 
+cast-at : tie.Need-cast-at
+cast-at c = search needs
+
+mul-live : tie.Need-mul-live
+mul-live c = search needs
+
+slice-read-live : tie.Need-slice-read-live
+slice-read-live c = search needs
+
 meet-requires : tie.Need-meet-requires
 meet-requires c κs = search needs
 
@@ -14,25 +23,16 @@ sub-sum : tie.Need-sub-sum
 sub-sum c = search needs
 
 sum-requires : tie.Need-sum-requires
-sum-requires c κs = (below (c .before .before .before .before .args .size) (c .before .before .before .before .args .core .now) (c .before .before .before .before .args .modifier) (c .before .before .before .before .args .pc .0) (c .before .before .before .before .args .jump .0) (c .before .before .before .before .args .target .0) (c .before .before .before .before .args .ra) (c .before .before .before .before .args .rb) (c .before .before .before .before .args .w) (c .before .before .before .before .pre) _ (c .before .before .meet .ensures) .b1, search needs, search needs)
+sum-requires c κs = (below (c .before .before .before .before .before .before .args .size) (c .before .before .before .before .before .before .args .core .now) (c .before .before .before .before .before .before .args .modifier) (c .before .before .before .before .before .before .args .pc .0) (c .before .before .before .before .before .before .args .jump .0) (c .before .before .before .before .before .before .args .target .0) (c .before .before .before .before .before .before .args .ra) (c .before .before .before .before .before .before .args .rb) (c .before .before .before .before .before .before .args .w) (c .before .before .before .before .before .before .pre) _ (c .before .before .meet .ensures) .b1, search needs, search needs)
 
 sub-sum-2 : tie.Need-sub-sum-2
 sub-sum-2 c = search needs
 
 sum-requires-2 : tie.Need-sum-requires-2
-sum-requires-2 c κs = (below (c .before .before .before .before .before .args .size) (c .before .before .before .before .before .args .core .now) (c .before .before .before .before .before .args .modifier) (c .before .before .before .before .before .args .pc .0) (c .before .before .before .before .before .args .jump .0) (c .before .before .before .before .before .args .target .0) (c .before .before .before .before .before .args .ra) (c .before .before .before .before .before .args .rb) (c .before .before .before .before .before .args .w) (c .before .before .before .before .before .pre) _ (c .before .before .before .meet .ensures) .b2, search needs, search needs)
-
-cast-at : tie.Need-cast-at
-cast-at c = search needs
-
-mul-t : tie.Need-mul-t
-mul-t c = search needs
-
-slice-read-t : tie.Need-slice-read-t
-slice-read-t c = search needs
+sum-requires-2 c κs = (below (c .before .before .before .before .before .before .before .args .size) (c .before .before .before .before .before .before .before .args .core .now) (c .before .before .before .before .before .before .before .args .modifier) (c .before .before .before .before .before .before .before .args .pc .0) (c .before .before .before .before .before .before .before .args .jump .0) (c .before .before .before .before .before .before .before .args .target .0) (c .before .before .before .before .before .before .before .args .ra) (c .before .before .before .before .before .before .before .args .rb) (c .before .before .before .before .before .before .before .args .w) (c .before .before .before .before .before .before .before .pre) _ (c .before .before .before .meet .ensures) .b2, search needs, search needs)
 
 store-requires : tie.Need-store-requires
-store-requires c κs = let h = c .before .before .before .sum .ensures .below in let v = c .before .before .before .before .before .before .before .before .pre .valid in omega arith
+store-requires c κs = let h = c .before .sum .ensures .below in let v = c .before .before .before .before .before .before .before .before .pre .valid in omega arith
 
 mul-core : tie.Need-mul-core
 mul-core c = search needs
@@ -47,32 +47,32 @@ same-length : tie.Need-same-length
 same-length c = search needs
 
 returns : tie.Need-returns
-returns c = counted (c .before .before .before .before .before .before .before .before .before .before .args .size) (c .before .before .before .before .before .before .before .before .before .before .args .core .now) (c .before .before .before .before .before .before .before .before .before .before .args .modifier) (c .before .before .before .before .before .before .before .before .before .before .args .pc .0) (c .before .before .before .before .before .before .before .before .before .before .args .jump .0) (c .before .before .before .before .before .before .before .before .before .before .args .target .0) (c .before .before .before .before .before .before .before .before .before .before .args .ra) (c .before .before .before .before .before .before .before .before .before .before .args .rb) (c .before .before .before .before .before .before .before .before .before .before .args .w) (c .before .before .before .before .before .before .before .before .before .before .pre) _ (c .before .before .before .before .before .before .before .before .meet .ensures) _ _ _ (c .before .before .before .before .before .sum .ensures .is) (c .before .before .before .before .sum2 .ensures .is) (c .before .store .ensures) _ (c .if1 .taken) _ refl
+returns c = counted (c .before .before .before .before .before .before .before .before .before .before .args .size) (c .before .before .before .before .before .before .before .before .before .before .args .core .now) (c .before .before .before .before .before .before .before .before .before .before .args .modifier) (c .before .before .before .before .before .before .before .before .before .before .args .pc .0) (c .before .before .before .before .before .before .before .before .before .before .args .jump .0) (c .before .before .before .before .before .before .before .before .before .before .args .target .0) (c .before .before .before .before .before .before .before .before .before .before .args .ra) (c .before .before .before .before .before .before .before .before .before .before .args .rb) (c .before .before .before .before .before .before .before .before .before .before .args .w) (c .before .before .before .before .before .before .before .before .before .before .pre) _ (c .before .before .before .before .before .before .meet .ensures) _ _ _ (c .before .before .before .sum .ensures .is) (c .before .before .sum2 .ensures .is) (c .before .store .ensures) _ (c .if1 .taken) _ refl
 
 add-requires : tie.Need-add-requires
 add-requires c κs = search needs
 
-add-t18 : tie.Need-add-t18
-add-t18 c = search needs
+add-t21 : tie.Need-add-t21
+add-t21 c = search needs
 
 same-length-2 : tie.Need-same-length-2
 same-length-2 c = search needs
 
 returns-2 : tie.Need-returns-2
-returns-2 c = counted (c .before .before .before .before .before .before .before .before .before .before .before .args .size) (c .before .before .before .before .before .before .before .before .before .before .before .args .core .now) (c .before .before .before .before .before .before .before .before .before .before .before .args .modifier) (c .before .before .before .before .before .before .before .before .before .before .before .args .pc .0) (c .before .before .before .before .before .before .before .before .before .before .before .args .jump .0) (c .before .before .before .before .before .before .before .before .before .before .before .args .target .0) (c .before .before .before .before .before .before .before .before .before .before .before .args .ra) (c .before .before .before .before .before .before .before .before .before .before .before .args .rb) (c .before .before .before .before .before .before .before .before .before .before .before .args .w) (c .before .before .before .before .before .before .before .before .before .before .before .pre) _ (c .before .before .before .before .before .before .before .before .before .meet .ensures) _ _ _ (c .before .before .before .before .before .before .sum .ensures .is) (c .before .before .before .before .before .sum2 .ensures .is) (c .before .before .store .ensures) _ (c .before .if1 .left) _ (c .add .ensures .is)
+returns-2 c = counted (c .before .before .before .before .before .before .before .before .before .before .before .args .size) (c .before .before .before .before .before .before .before .before .before .before .before .args .core .now) (c .before .before .before .before .before .before .before .before .before .before .before .args .modifier) (c .before .before .before .before .before .before .before .before .before .before .before .args .pc .0) (c .before .before .before .before .before .before .before .before .before .before .before .args .jump .0) (c .before .before .before .before .before .before .before .before .before .before .before .args .target .0) (c .before .before .before .before .before .before .before .before .before .before .before .args .ra) (c .before .before .before .before .before .before .before .before .before .before .before .args .rb) (c .before .before .before .before .before .before .before .before .before .before .before .args .w) (c .before .before .before .before .before .before .before .before .before .before .before .pre) _ (c .before .before .before .before .before .before .before .meet .ensures) _ _ _ (c .before .before .before .before .sum .ensures .is) (c .before .before .before .sum2 .ensures .is) (c .before .before .store .ensures) _ (c .before .if1 .left) _ (c .add .ensures .is)
 
 pub counts-spec : {M : Type 1} → statement M
 counts-spec =
     tie.close
     (tie.spec
+    cast-at
+    mul-live
+    slice-read-live
     meet-requires
     sub-sum
     sum-requires
     sub-sum-2
     sum-requires-2
-    cast-at
-    mul-t
-    slice-read-t
     store-requires
     mul-core
     slice-write-core
@@ -80,6 +80,6 @@ counts-spec =
     same-length
     returns
     add-requires
-    add-t18
+    add-t21
     same-length-2
     returns-2)

@@ -27,8 +27,8 @@ mul-core c = search needs
 slice-write-core : tie.Need-slice-write-core
 slice-write-core c = search needs
 
-add-t23 : tie.Need-add-t23
-add-t23 c = search needs
+add-t24 : tie.Need-add-t24
+add-t24 c = search needs
 
 same-length : tie.Need-same-length
 same-length c = search needs
@@ -48,8 +48,8 @@ mul-core-2 c = search needs
 slice-write-core-2 : tie.Need-slice-write-core-2
 slice-write-core-2 c = search needs
 
-add-t25 : tie.Need-add-t25
-add-t25 c = search needs
+add-t26 : tie.Need-add-t26
+add-t26 c = search needs
 
 same-length-2 : tie.Need-same-length-2
 same-length-2 c = search needs
@@ -68,13 +68,13 @@ moves-spec =
     copy-requires
     mul-core
     slice-write-core
-    add-t23
+    add-t24
     same-length
     returns
     meet-requires
     store-requires
     mul-core-2
     slice-write-core-2
-    add-t25
+    add-t26
     same-length-2
     returns-2)
