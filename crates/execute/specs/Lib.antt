@@ -1,1 +1,4 @@
 pub mod Instruction
+pub mod Words
+pub mod Operands
+pub mod Acts

@@ -1,0 +1,425 @@
+-- Laws of execution: the field pairs as two, and what the machine's effect is, by opcode, from what the code finds.
+-- Assumes nothing.
+use mathlib.Core.Path.{_≡_, refl, sym, ap, _∙_}
+use mathlib.Core.Bool.{Bool, true, false, cond, not, _&&_, _||_}
+use mathlib.Core.Logic.{_⊎_, inl, inr, ⊎-elim}
+use mathlib.Core.List.{List, [], _∷_}
+use mathlib.Core.Option.{Option, none, some}
+use Prim.Native.Nat.{ℕ, zero, suc, _+_, _-_, _*_, _/_, _%_, _^_, _≤_, _<_, zero-le}
+use native.Mathlib.Nat.{add-zero, mod-lt, lt-of-le-of-lt, le-of-lt, div-le-self, mod-le, mod-add-mod, mul-le-mul-left, mul-lt-mul-of-pos-right, eq-or-lt-of-le}
+use native.Mathlib.Omega.{arith}
+use lib.Dec.{eqb, ltb, lit<}
+use lib.ListN.{getD, set, List·getD-eq-default}
+use borrow.Author.Tests.{ne-eqb}
+use Rattle.laws.specs.Lists.{every}
+use Rattle.laws.proofs.Cases.{span}
+use Rattle.laws.proofs.Modulo.{mod-small}
+use Rattle.laws.proofs.Tests.{both}
+use Rattle.load_file.specs.declared.Cell.{Cell}
+use Rattle.load_file.specs.declared.offset.Relative.{Relative}
+use Rattle.load_file.specs.declared.types.Pairs.{Pairs}
+use Rattle.load_file.specs.Offset.{ahead}
+use Rattle.load_file.specs.Types.{Field, A, B, pairsOf}
+use Rattle.load_file.specs.Cells.{packed, unpacked, soundWord, number, withNumber, relative}
+use Rattle.load_file.proofs.Words.{InRange, unpack-pack}
+use Rattle.machine.specs.Execution as machine
+use Rattle.machine.specs.Execution.{Scene, Effect, ends, goes, divisor, mets, some?, computes, stored, put, isNone, effects, effectOf}
+use Rattle.machine.specs.Pointers.{less}
+use Rattle.machine.specs.Instruction.{storeTo, storeWrites}
+use Rattle.execute.specs.declared.Executed.{Executed}
+use Rattle.execute.specs.declared.Executed.the-variants.{Goes, Splits, Dat, DivideByZero}
+use Rattle.execute.specs.declared.modifier.Met.{Met}
+use Rattle.execute.specs.Instruction.{answered}
+use Rattle.execute.specs.Words.{fieldBy, copyOf, Reduced}
+use Rattle.execute.specs.Acts.{metOf, firstOf, lastOf, Below, valueBy, sceneOf, Answers, Does, Set}
+use Rattle.execute.proofs.Cells.{word-range, with-range, number-below, whole}
+
+-- the numbers that the code reads are those that meet
+pub met-is : (k ra rb : ℕ) {p : Pairs} {a1 b1 a2 b2 : Relative} → p ≡ pairsOf k
+    → a1 .0 ≡ number (fieldBy (p .a1)) (unpacked ra) → b1 .0 ≡ number (fieldBy (p .b1)) (unpacked rb)
+    → a2 .0 ≡ number (fieldBy (p .a2)) (unpacked ra) → b2 .0 ≡ number (fieldBy (p .b2)) (unpacked rb)
+    → record { a1 = a1; b1 = b1; a2 = a2; b2 = b2; t1 = p .b1; t2 = p .b2 } ≡ metOf k ra rb
+unfolding metOf
+met-is k ra rb {p} e f g h l =
+    (λ i. record { a1 = relative (f i); b1 = relative (g i); a2 = relative (h i); b2 = relative (l i); t1 = p .b1; t2 = p .b2 })
+    ∙ rw e
+
+and-twice : (b : Bool) → (b && true) ≡ (b && b)
+and-twice true = refl
+and-twice false = refl
+
+and-true : (b : Bool) → (b && true) ≡ b
+and-true true = refl
+and-true false = refl
+
+neither-not : (a b : Bool) → not (not a && not b) ≡ (a || b)
+neither-not true b = refl
+neither-not false true = refl
+neither-not false false = refl
+
+put-twice : (o : Option ℕ) (f : Field) (c : Cell) → put o f c ≡ put o f (put o f c)
+put-twice none f c = refl
+put-twice (some n) A c = refl
+put-twice (some n) B c = refl
+
+-- a modifier has one pair, which the code has twice, or two
+abbrev Shape : Scene → Met → Type 0
+Shape s p = ((mets s ≡ (firstOf p ∷ [])) × (lastOf p ≡ firstOf p)) ⊎ (mets s ≡ (firstOf p ∷ lastOf p ∷ []))
+
+shape : (size k pc jump ra rb live : ℕ) → k ≤ 6 → Shape (sceneOf size k pc jump ra rb live) (metOf k ra rb)
+unfolding metOf
+shape size k pc jump ra rb live h =
+    span k 0 7 zero-le (omega arith) (
+      λ e. rw e (inl (refl, refl)),
+      (
+        λ e. rw e (inl (refl, refl)),
+        (
+          λ e. rw e (inl (refl, refl)),
+          (λ e. rw e (inl (refl, refl)), (λ e. rw e (inr refl), (λ e. rw e (inr refl), (λ e. rw e (inr refl), tt)))),
+        ),
+      ),
+    )
+
+module _ (s : Scene) (p : Met) (sh : Shape s p) where
+  every-two : (t : machine.Met → Bool) → every t (mets s) ≡ (t (firstOf p) && t (lastOf p))
+  every-two t =
+      ⊎-elim (λ x. rw (x .0, x .1) (and-twice (t (firstOf p)))) (λ x. rw x (ap (λ (b : Bool). t (firstOf p) && b) (and-true (t (lastOf p))))) sh
+
+  some-two : (t : machine.Met → Bool) → some? t s ≡ (t (firstOf p) || t (lastOf p))
+  some-two t = ap not (every-two (λ x. not (t x))) ∙ neither-not (t (firstOf p)) (t (lastOf p))
+
+  stored-two : (f : ℕ → ℕ → Option ℕ) (c : Cell)
+      → stored f (mets s) c ≡ put (f (p .a2 .0) (p .b2 .0)) (fieldBy (p .t2)) (put (f (p .a1 .0) (p .b1 .0)) (fieldBy (p .t1)) c)
+  stored-two f c =
+      ⊎-elim (λ x. rw (x .0) (put-twice (f (p .a1 .0) (p .b1 .0)) (fieldBy (p .t1)) c ∙ again (x .1))) (λ x. rw x) sh
+    where
+      again : lastOf p ≡ firstOf p
+          → put (f (p .a1 .0) (p .b1 .0)) (fieldBy (p .t1)) (put (f (p .a1 .0) (p .b1 .0)) (fieldBy (p .t1)) c)
+          ≡ put (f (p .a2 .0) (p .b2 .0)) (fieldBy (p .t2)) (put (f (p .a1 .0) (p .b1 .0)) (fieldBy (p .t1)) c)
+      again e = ap (λ (x : machine.Met). put (f (x .a) (x .b)) (x .target) (put (f (p .a1 .0) (p .b1 .0)) (fieldBy (p .t1)) c)) (sym e)
+
+-- the numbers that meet are those of sound cells
+pub met-below : (size k ra rb : ℕ) (p : Met) → p ≡ metOf k ra rb → soundWord size ra ≡ true → soundWord size rb ≡ true → Below size p
+unfolding metOf
+met-below size k ra rb p e f g =
+    rw e
+    (record {
+      a1 = number-below (fieldBy (pairsOf k .a1)) size ra f;
+      b1 = number-below (fieldBy (pairsOf k .b1)) size rb g;
+      a2 = number-below (fieldBy (pairsOf k .a2)) size ra f;
+      b2 = number-below (fieldBy (pairsOf k .b2)) size rb g;
+    })
+
+-- the effect by ranges of opcodes
+computes-at : (op : ℕ) (s : Scene) → 2 ≤ op → op < 7 → effectOf op s ≡ computes s (valueBy op) (s .live)
+unfolding effectOf
+computes-at op s l h = span op 2 5 l h (λ e. rw e, (λ e. rw e, (λ e. rw e, (λ e. rw e, (λ e. rw e, tt)))))
+
+-- the numbers of two sound cells multiply within 32 bits
+pub product-fits : {size : ℕ} (a b : ℕ) → a < size → b < size → size ≤ 46341 → a * b < 2 ^ 32
+product-fits {size} a b ha hb l =
+    lt-of-le-of-lt (mul-le-mul-left a (le-of-lt (small b hb))) (mul-lt-mul-of-pos-right (small a ha) (lit< tt))
+  where
+    small : (x : ℕ) → x < size → x < 2 ^ 16
+    small x h = omega arith
+
+pub positive : {a size : ℕ} → a < size → 0 < size
+positive h = omega arith
+
+pub value-sum : (op size a b : ℕ) {r : ℕ} → op ≡ 2 → Reduced size a b r → (some r ≡ valueBy op size a b) × (r < size)
+value-sum op size a b e h = (rw e (ap some (h .is)), h .below)
+
+pub value-difference : (op size a b : ℕ) {r : ℕ} → op ≡ 3 → Reduced size b (size - a) r → (some r ≡ valueBy op size a b) × (r < size)
+value-difference op size a b e h = (rw e (ap some (h .is)), h .below)
+
+pub value-product : (op size a b : ℕ) → op ≡ 4 → a < size → (some (a * b % size) ≡ valueBy op size a b) × (a * b % size < size)
+value-product op size a b e h = (rw e, mod-lt (a * b) (positive h))
+
+-- DIV and MOD: none for a zero b
+none-is : (op size a b : ℕ) → 5 ≤ op → op < 7 → isNone (valueBy op size a b) ≡ eqb b 0
+none-is op size a zero l h = span op 5 2 l h (λ e. rw e, (λ e. rw e, tt))
+none-is op size a (suc b) l h = span op 5 2 l h (λ e. rw e, (λ e. rw e, tt)) ∙ sym (ne-eqb (suc b) 0 (λ e. omega arith))
+
+abbrev ratio : ℕ → ℕ → ℕ → ℕ
+ratio op a b = cond (eqb op 5) (a / b) (a % b)
+
+ratio-le : (op a b : ℕ) → ratio op a b ≤ a
+ratio-le op a b = by (eqb op 5)
+  where
+    by : (t : Bool) → cond t (a / b) (a % b) ≤ a
+    by true = div-le-self a b
+    by false = mod-le a b
+
+ratio-is : (op size a b : ℕ) → 5 ≤ op → op < 7 → a < size → (b ≡ 0 → ⊥) → valueBy op size a b ≡ some (ratio op a b)
+ratio-is op size a zero l h u n = absurd (n refl)
+ratio-is op size a (suc b) l h u n =
+    span op 5 2 l h (
+      λ e. rw e (ap some (sym (mod-small (lt-of-le-of-lt (div-le-self a (suc b)) u)))),
+      (λ e. rw e (ap some (sym (mod-small (lt-of-le-of-lt (mod-le a (suc b)) u)))), tt),
+    )
+
+-- a target field divided
+part-is : (op size a b : ℕ) (f : Field) (t r : ℕ) → 5 ≤ op → op < 7 → a < size → packed (unpacked t) ≡ t
+    → r ≡ cond (eqb b 0) t (packed (withNumber f (cond (eqb op 5) (a / b) (a % b)) (unpacked t)))
+    → r ≡ packed (put (valueBy op size a b) f (unpacked t))
+part-is op size a zero f t r l h u e er = er ∙ sym e ∙ span op 5 2 l h (λ g. rw g, (λ g. rw g, tt))
+part-is op size a (suc b) f t r l h u e er =
+    er ∙ simp (ne-eqb (suc b) 0 (λ g. omega arith)) (rw (ratio-is op size a (suc b) l h u (λ g. omega arith)))
+
+put-range : (op size a b : ℕ) (f : Field) (c : Cell) → 5 ≤ op → op < 7 → a < size → size ≤ 46341 → InRange c → InRange (put (valueBy op size a b) f c)
+put-range op size a zero f c l h u v r = span op 5 2 l h (λ e. rw e r, (λ e. rw e r, tt))
+put-range op size a (suc b) f c l h u v r =
+    rw (ratio-is op size a (suc b) l h u (λ g. omega arith)) (with-range f _ c (let q = ratio-le op a (suc b) in omega arith) r)
+
+not-both : (a b : Bool) → (not a || not b) ≡ not (a && b)
+not-both true b = refl
+not-both false b = refl
+
+-- two cells on
+pub two-on : (size pc : ℕ) {next after : ℕ} → next ≡ ahead size pc 1 → after ≡ ahead size next 1 → after ≡ ahead size pc 2
+two-on size pc e f = f ∙ rw (e, mod-add-mod) (ap (λ (n : ℕ). n % size) sum-two)
+  where
+    sum-two : pc + 1 + 1 ≡ pc + 2
+    sum-two = omega arith
+
+moved-fields : (s : Scene) → (s .modifier ≡ 6 → ⊥) → effectOf 1 s ≡ computes s machine.moved (s .live)
+unfolding effectOf
+moved-fields s n = simp (ne-eqb (s .modifier) 6 n)
+
+counts-at : (s : Scene) → effectOf 10 s ≡ machine.counts s
+unfolding effectOf
+counts-at s = refl
+
+skips-at : (op : ℕ) (s : Scene) (g : Bool) → 11 ≤ op → op < 15
+    → cond (eqb op 14) (every (λ x. ltb (x .a) (x .b)) (mets s)) (cond (eqb op 13) (not (machine.equal s)) (machine.equal s)) ≡ g
+    → effectOf op s ≡ machine.skip s g
+unfolding effectOf
+skips-at op s g l h eg =
+    span op 11 4 l h (
+      λ e. rw e (ap (machine.skip s) (rw e at eg)),
+      (λ e. rw e (ap (machine.skip s) (rw e at eg)), (λ e. rw e (ap (machine.skip s) (rw e at eg)), (λ e. rw e (ap (machine.skip s) (rw e at eg)), tt))),
+    )
+
+moved-whole : (size pc jump ra rb live : ℕ)
+    → effectOf 1 (sceneOf size 6 pc jump ra rb live) ≡ record { cell = some (copyOf (unpacked live) (unpacked ra)); next = goes (ahead size pc 1) }
+unfolding effectOf
+moved-whole size pc jump ra rb live = refl
+
+module _ (size : ℕ) (core : List ℕ) (k pc jump target ra rb w : ℕ) where
+  abbrev scene : Scene
+  scene = sceneOf size k pc jump ra rb (getD core target 0)
+
+  does : (op : ℕ) (e : Effect) {r : Executed} {l : List ℕ} → effectOf op scene ≡ e → r ≡ answered (e .next) (w + storeWrites (e .cell))
+      → l ≡ storeTo (e .cell) core target → Does op scene core target w r l
+  does op e q x y = (rw q x, rw q y)
+
+  module _ (ok : Set size core k pc target ra rb w) where
+    pub move-whole : k ≡ 6 → (next word : ℕ) → next ≡ ahead size pc 1 → word ≡ packed (copyOf (unpacked (getD core target 0)) (unpacked ra))
+        → Does 1 scene core target w (Goes next (w + 1)) (set core target word)
+    move-whole e next word en ew =
+        does 1 _ (ap (λ (x : ℕ). effectOf 1 (sceneOf size x pc jump ra rb (getD core target 0))) e ∙ moved-whole size pc jump ra rb (getD core target 0)) (rw en) (rw ew)
+
+    module _ (p : Met) (ep : p ≡ metOf k ra rb) where
+      shaped : Shape scene p
+      shaped = rw ep (shape size k pc jump ra rb (getD core target 0) (ok .row))
+
+      pub below : Below size p
+      below = met-below size k ra rb p ep (ok .soundA) (ok .soundB)
+
+      computed : (op : ℕ) (f : ℕ → ℕ → ℕ → Option ℕ) → effectOf op scene ≡ computes scene f (scene .live)
+          → (v1 v2 next word : ℕ) → some v1 ≡ f size (p .a1 .0) (p .b1 .0) → some v2 ≡ f size (p .a2 .0) (p .b2 .0) → next ≡ ahead size pc 1
+          → word ≡ packed (withNumber (fieldBy (p .t2)) v2 (withNumber (fieldBy (p .t1)) v1 (unpacked (getD core target 0))))
+          → Does op scene core target w (Goes next (w + 1)) (set core target word)
+      computed op f ee v1 v2 next word e1 e2 en ew = does op _ (ee ∙ known) (rw en) (rw ew)
+        where
+          stores : some? (λ x. not (isNone (f size (x .a) (x .b)))) scene ≡ true
+          stores = some-two scene p shaped (λ x. not (isNone (f size (x .a) (x .b)))) ∙ rw (← e1)
+
+          no-zero : some? (λ x. isNone (f size (x .a) (x .b))) scene ≡ false
+          no-zero = some-two scene p shaped (λ x. isNone (f size (x .a) (x .b))) ∙ rw (← e1, ← e2)
+
+          filled : stored (f size) (mets scene) (scene .live) ≡ withNumber (fieldBy (p .t2)) v2 (withNumber (fieldBy (p .t1)) v1 (unpacked (getD core target 0)))
+          filled = stored-two scene p shaped (f size) (scene .live) ∙ rw (← e1, ← e2)
+
+          known : computes scene f (scene .live)
+              ≡ record { cell = some (withNumber (fieldBy (p .t2)) v2 (withNumber (fieldBy (p .t1)) v1 (unpacked (getD core target 0)))); next = goes (ahead size pc 1) }
+          known = λ i. record { cell = cond (stores i) (some (filled i)) none; next = cond (no-zero i) (ends divisor) (goes (ahead size pc 1)) }
+
+      pub move-fields : (k ≡ 6 → ⊥) → (next word : ℕ) → next ≡ ahead size pc 1
+          → word ≡ packed (withNumber (fieldBy (p .t2)) (p .a2 .0) (withNumber (fieldBy (p .t1)) (p .a1 .0) (unpacked (getD core target 0))))
+          → Does 1 scene core target w (Goes next (w + 1)) (set core target word)
+      move-fields n next word en ew = computed 1 machine.moved (moved-fields scene n) (p .a1 .0) (p .a2 .0) next word refl refl en ew
+
+      pub summed : (op : ℕ) → 2 ≤ op → op < 5 → (v1 v2 next word : ℕ) → some v1 ≡ valueBy op size (p .a1 .0) (p .b1 .0)
+          → some v2 ≡ valueBy op size (p .a2 .0) (p .b2 .0) → next ≡ ahead size pc 1
+          → word ≡ packed (withNumber (fieldBy (p .t2)) v2 (withNumber (fieldBy (p .t1)) v1 (unpacked (getD core target 0))))
+          → Does op scene core target w (Goes next (w + 1)) (set core target word)
+      summed op l u = computed op (valueBy op) (computes-at op scene l (omega arith))
+
+      module _ (op : ℕ) (l : 5 ≤ op) (u : op < 7) where
+        -- DIV and MOD by which b is zero
+        divided : (all one : Bool) → (eqb (p .b1 .0) 0 && eqb (p .b2 .0) 0) ≡ all → (eqb (p .b1 .0) 0 || eqb (p .b2 .0) 0) ≡ one
+            → effectOf op scene
+            ≡ record {
+              cell = cond (not all) (some (put (valueBy op size (p .a2 .0) (p .b2 .0)) (fieldBy (p .t2)) (put (valueBy op size (p .a1 .0) (p .b1 .0)) (fieldBy (p .t1)) (unpacked (getD core target 0))))) none;
+              next = cond one (ends divisor) (goes (ahead size pc 1));
+            }
+        divided all one ea eo = computes-at op scene (omega arith) u ∙ known
+          where
+            first : isNone (valueBy op size (p .a1 .0) (p .b1 .0)) ≡ eqb (p .b1 .0) 0
+            first = none-is op size (p .a1 .0) (p .b1 .0) l u
+
+            last : isNone (valueBy op size (p .a2 .0) (p .b2 .0)) ≡ eqb (p .b2 .0) 0
+            last = none-is op size (p .a2 .0) (p .b2 .0) l u
+
+            stores : some? (λ x. not (isNone (valueBy op size (x .a) (x .b)))) scene ≡ not all
+            stores =
+                some-two scene p shaped (λ x. not (isNone (valueBy op size (x .a) (x .b)))) ∙ rw (first, last) (not-both (eqb (p .b1 .0) 0) (eqb (p .b2 .0) 0))
+                ∙ ap not ea
+
+            zero-one : some? (λ x. isNone (valueBy op size (x .a) (x .b))) scene ≡ one
+            zero-one = some-two scene p shaped (λ x. isNone (valueBy op size (x .a) (x .b))) ∙ rw (first, last) eo
+
+            known : computes scene (valueBy op) (scene .live)
+                ≡ record {
+                  cell = cond (not all) (some (put (valueBy op size (p .a2 .0) (p .b2 .0)) (fieldBy (p .t2)) (put (valueBy op size (p .a1 .0) (p .b1 .0)) (fieldBy (p .t1)) (unpacked (getD core target 0))))) none;
+                  next = cond one (ends divisor) (goes (ahead size pc 1));
+                }
+            known =
+                λ i. record { cell = cond (stores i) (some (stored-two scene p shaped (valueBy op size) (scene .live) i)) none; next = cond (zero-one i) (ends divisor) (goes (ahead size pc 1)) }
+
+        -- the word that the code stores
+        parts : (half word : ℕ)
+            → half ≡ cond (eqb (p .b1 .0) 0) (getD core target 0) (packed (withNumber (fieldBy (p .t1)) (cond (eqb op 5) (p .a1 .0 / p .b1 .0) (p .a1 .0 % p .b1 .0)) (unpacked (getD core target 0))))
+            → word ≡ cond (eqb (p .b2 .0) 0) half (packed (withNumber (fieldBy (p .t2)) (cond (eqb op 5) (p .a2 .0 / p .b2 .0) (p .a2 .0 % p .b2 .0)) (unpacked half)))
+            → word ≡ packed (put (valueBy op size (p .a2 .0) (p .b2 .0)) (fieldBy (p .t2)) (put (valueBy op size (p .a1 .0) (p .b1 .0)) (fieldBy (p .t1)) (unpacked (getD core target 0))))
+        parts half word eh ew =
+            part-is op size (p .a2 .0) (p .b2 .0) (fieldBy (p .t2)) half word l u (below .a2) (ap packed half-is ∙ sym half-packed) ew
+            ∙ ap (λ (c : Cell). packed (put (valueBy op size (p .a2 .0) (p .b2 .0)) (fieldBy (p .t2)) c)) half-is
+          where
+            half-packed : half ≡ packed (put (valueBy op size (p .a1 .0) (p .b1 .0)) (fieldBy (p .t1)) (unpacked (getD core target 0)))
+            half-packed = part-is op size (p .a1 .0) (p .b1 .0) (fieldBy (p .t1)) (getD core target 0) half l u (below .a1) (whole size (getD core target 0) (ok .live)) eh
+
+            half-is : unpacked half ≡ put (valueBy op size (p .a1 .0) (p .b1 .0)) (fieldBy (p .t1)) (unpacked (getD core target 0))
+            half-is =
+                ap unpacked half-packed
+                ∙ unpack-pack _ (put-range op size (p .a1 .0) (p .b1 .0) (fieldBy (p .t1)) (unpacked (getD core target 0)) l u (below .a1) (ok .valid) (word-range (getD core target 0)))
+
+        pub all-zero : (eqb (p .b1 .0) 0 && eqb (p .b2 .0) 0) ≡ true → Does op scene core target w (DivideByZero w) core
+        all-zero e = does op _ (divided true true e one-too) (ap DivideByZero (sym (add-zero w))) refl
+          where
+            one-too : (eqb (p .b1 .0) 0 || eqb (p .b2 .0) 0) ≡ true
+            one-too = rw (both (eqb (p .b1 .0) 0) (eqb (p .b2 .0) 0) e .0)
+
+        module _ (half word : ℕ)
+            (eh : half ≡ cond (eqb (p .b1 .0) 0) (getD core target 0) (packed (withNumber (fieldBy (p .t1)) (cond (eqb op 5) (p .a1 .0 / p .b1 .0) (p .a1 .0 % p .b1 .0)) (unpacked (getD core target 0)))))
+            (ew : word ≡ cond (eqb (p .b2 .0) 0) half (packed (withNumber (fieldBy (p .t2)) (cond (eqb op 5) (p .a2 .0 / p .b2 .0) (p .a2 .0 % p .b2 .0)) (unpacked half))))
+            (some-left : (eqb (p .b1 .0) 0 && eqb (p .b2 .0) 0) ≡ false) where
+          pub one-zero : (eqb (p .b1 .0) 0 || eqb (p .b2 .0) 0) ≡ true → Does op scene core target w (DivideByZero (w + 1)) (set core target word)
+          one-zero e = does op _ (divided false true some-left e) refl (ap (set core target) (parts half word eh ew))
+
+          pub no-zero : (eqb (p .b1 .0) 0 || eqb (p .b2 .0) 0) ≡ false → (next : ℕ) → next ≡ ahead size pc 1
+              → Does op scene core target w (Goes next (w + 1)) (set core target word)
+          no-zero e next en = does op _ (divided false false some-left e) (rw en) (ap (set core target) (parts half word eh ew))
+
+      pub counted : (n1 n2 word : ℕ) → n1 ≡ less size (p .b1 .0) → n2 ≡ less size (p .b2 .0)
+          → word ≡ packed (withNumber (fieldBy (p .t2)) n2 (withNumber (fieldBy (p .t1)) n1 (unpacked (getD core target 0))))
+          → (g : Bool) → (not (eqb n1 0) || not (eqb n2 0)) ≡ g → (r : ℕ) → r ≡ cond g jump (ahead size pc 1)
+          → Does 10 scene core target w (Goes r (w + 1)) (set core target word)
+      counted n1 n2 word e1 e2 ew g eg r er = does 10 _ (counts-at scene ∙ known) (rw er) (rw ew)
+        where
+          some-left : some? (λ x. not (eqb (less size (x .b)) 0)) scene ≡ g
+          some-left = some-two scene p shaped (λ x. not (eqb (less size (x .b)) 0)) ∙ rw (← e1, ← e2) eg
+
+          filled : stored (machine.lowered size) (mets scene) (scene .live) ≡ withNumber (fieldBy (p .t2)) n2 (withNumber (fieldBy (p .t1)) n1 (unpacked (getD core target 0)))
+          filled = stored-two scene p shaped (machine.lowered size) (scene .live) ∙ rw (e1, e2)
+
+          known : machine.counts scene
+              ≡ record { cell = some (withNumber (fieldBy (p .t2)) n2 (withNumber (fieldBy (p .t1)) n1 (unpacked (getD core target 0)))); next = goes (cond g jump (ahead size pc 1)) }
+          known = λ i. record { cell = some (filled i); next = goes (cond (some-left i) jump (ahead size pc 1)) }
+
+      -- CMP, SEQ, SNE and SLT
+      abbrev same : Bool
+      same = eqb (p .a1 .0) (p .b1 .0) && eqb (p .a2 .0) (p .b2 .0) && (not (eqb k 6) || eqb ra (getD core target 0))
+
+      equal-is : machine.equal scene ≡ same
+      equal-is =
+          rw (every-two scene p shaped (λ x. eqb (x .a) (x .b)), whole size ra (ok .soundA), whole size (getD core target 0) (ok .live))
+
+      pub skipped : (op : ℕ) → 11 ≤ op → op < 15 → (g : Bool)
+          → cond (eqb op 14) (ltb (p .a1 .0) (p .b1 .0) && ltb (p .a2 .0) (p .b2 .0)) (cond (eqb op 13) (not same) same) ≡ g
+          → (r : ℕ) → r ≡ cond g (ahead size pc 2) (ahead size pc 1) → Does op scene core target w (Goes r w) core
+      skipped op l u g eg r er =
+          does op (machine.skip scene g) (skips-at op scene g l u (rw (every-two scene p shaped (λ x. ltb (x .a) (x .b)), equal-is) eg))
+          (ap (λ (n : ℕ). Goes n w) er ∙ ap (Goes (cond g (ahead size pc 2) (ahead size pc 1))) (sym (add-zero w))) refl
+
+-- JMZ and JMN
+pub jumped : (size k pc jump ra rb w op : ℕ) → k ≤ 6 → 8 ≤ op → op < 10 → (p : Met) → p ≡ metOf k ra rb → (g : Bool)
+    → cond (eqb op 8) (eqb (p .b1 .0) 0 || eqb (p .b2 .0) 0) (not (eqb (p .b1 .0) 0) || not (eqb (p .b2 .0) 0)) ≡ g
+    → (r : ℕ) → r ≡ cond g jump (ahead size pc 1) → Answers op (sceneOf size k pc jump ra rb 0) w (Goes r w)
+unfolding effectOf
+jumped size k pc jump ra rb w op row l u p ep g eg r er =
+    ap (λ (n : ℕ). Goes n w) er ∙ ap (Goes (cond g jump (ahead size pc 1))) (sym (add-zero w))
+    ∙ span op 8 2 l u (
+      λ e. rw e (ap (λ (b : Bool). Goes (cond b jump (ahead size pc 1)) (w + 0)) (sym (some-two s p sh (λ x. eqb (x .b) 0) ∙ rw e at eg))),
+      (λ e. rw e (ap (λ (b : Bool). Goes (cond b jump (ahead size pc 1)) (w + 0)) (sym (some-two s p sh (λ x. not (eqb (x .b) 0)) ∙ rw e at eg))), tt),
+    )
+  where
+    s : Scene
+    s = sceneOf size k pc jump ra rb 0
+
+    sh : Shape (sceneOf size k pc jump ra rb 0) p
+    sh = rw ep (shape size k pc jump ra rb 0 row)
+
+-- what the A pointer, or the target, has no part in
+no-jump : (size k pc jump ra rb live op : ℕ) → 1 ≤ op → op < 7 → effectOf op (sceneOf size k pc 0 ra rb live) ≡ effectOf op (sceneOf size k pc jump ra rb live)
+unfolding effectOf
+no-jump size k pc jump ra rb live op l u = span op 1 6 l u (λ e. rw e, (λ e. rw e, (λ e. rw e, (λ e. rw e, (λ e. rw e, (λ e. rw e, tt))))))
+
+no-jump-too : (size k pc jump ra rb live op : ℕ) → 11 ≤ op → op < 15 → effectOf op (sceneOf size k pc 0 ra rb live) ≡ effectOf op (sceneOf size k pc jump ra rb live)
+unfolding effectOf
+no-jump-too size k pc jump ra rb live op l u = span op 11 4 l u (λ e. rw e, (λ e. rw e, (λ e. rw e, (λ e. rw e, tt))))
+
+module _ (size : ℕ) (core : List ℕ) (k pc jump target ra rb w : ℕ) where
+  pub with-jump : (op : ℕ) → 1 ≤ op → op < 7 → {r : Executed} {l : List ℕ} → Does op (sceneOf size k pc 0 ra rb (getD core target 0)) core target w r l
+      → Does op (sceneOf size k pc jump ra rb (getD core target 0)) core target w r l
+  with-jump op l u d = let e = no-jump size k pc jump ra rb (getD core target 0) op l u in (rw (← e) (d .0), rw (← e) (d .1))
+
+  pub with-jump-too : (op : ℕ) → 11 ≤ op → op < 15 → {r : Executed} {l : List ℕ} → Does op (sceneOf size k pc 0 ra rb (getD core target 0)) core target w r l
+      → Does op (sceneOf size k pc jump ra rb (getD core target 0)) core target w r l
+  with-jump-too op l u d = let e = no-jump-too size k pc jump ra rb (getD core target 0) op l u in (rw (← e) (d .0), rw (← e) (d .1))
+
+  pub with-core : (op : ℕ) → 8 ≤ op → op < 10 → {r : Executed} → Answers op (sceneOf size k pc jump ra rb 0) w r
+      → Does op (sceneOf size k pc jump ra rb (getD core target 0)) core target w r core
+  unfolding effectOf
+  with-core op l u d = span op 8 2 l u (λ e. rw e (rw e at d, refl), (λ e. rw e (rw e at d, refl), tt))
+
+  abbrev its : ℕ → Executed → List ℕ → Type 0
+  its op r l = Does op (sceneOf size k pc jump ra rb (getD core target 0)) core target w r l
+
+  pub data-ends : (op : ℕ) → op ≡ 0 → its op (Dat w) core
+  unfolding effectOf
+  data-ends op e = rw e (ap Dat (sym (add-zero w)), refl)
+
+  pub jump-goes : (op : ℕ) → op ≡ 7 → its op (Goes jump w) core
+  unfolding effectOf
+  jump-goes op e = rw e (ap (Goes jump) (sym (add-zero w)), refl)
+
+  pub split-goes : (op : ℕ) → op ≡ 15 → its op (Splits jump w) core
+  unfolding effectOf
+  split-goes op e = rw e (ap (Splits jump) (sym (add-zero w)), refl)
+
+  pub rest-goes : (op : ℕ) → 16 ≤ op → {next : ℕ} → next ≡ ahead size pc 1 → its op (Goes next w) core
+  unfolding effectOf
+  rest-goes op l en = rw (nothing op l, en) (ap (Goes _) (sym (add-zero w)), refl)
+    where
+      nothing : (op : ℕ) → 16 ≤ op → getD (effects (sceneOf size k pc jump ra rb (getD core target 0))) op (machine.going (ahead size pc 1)) ≡ machine.going (ahead size pc 1)
+      nothing op l =
+          ⊎-elim (λ e. ap (λ (n : ℕ). getD (effects (sceneOf size k pc jump ra rb (getD core target 0))) n (machine.going (ahead size pc 1))) (sym e))
+          (λ g. List·getD-eq-default (effects (sceneOf size k pc jump ra rb (getD core target 0))) (machine.going (ahead size pc 1)) g) (eq-or-lt-of-le l)
+
+-- the same opcode and modifier by other names
+pub told : (size : ℕ) (core : List ℕ) (pc jump target ra rb w : ℕ) {op op' k k' : ℕ} → op ≡ op' → k ≡ k' → {r : Executed} {l : List ℕ}
+    → Does op (sceneOf size k pc jump ra rb (getD core target 0)) core target w r l
+    → Does op' (sceneOf size k' pc jump ra rb (getD core target 0)) core target w r l
+told size core pc jump target ra rb w e f d = rw (← e, ← f) d

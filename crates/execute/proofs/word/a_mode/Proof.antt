@@ -1,0 +1,11 @@
+-- `execute::word::a_mode` meets its contract.
+-- Assumes nothing.
+use Rattle.execute.proofs.word.a_mode.Statement.{statement}
+use Rattle.execute.proofs.word.a_mode.Tie as tie
+use lib.Bits.{and-mask}
+
+returns : tie.Need-returns
+returns c = and-mask _ 3
+
+pub a-mode-spec : {M : Type 1} → statement M
+a-mode-spec = tie.close (tie.spec returns)

@@ -1,0 +1,23 @@
+-- The number fields by the code's numbers, and the reducing addition below twice the size.
+-- Assumes nothing.
+use Prim.Native.Nat.{ℕ, _<_}
+use mathlib.Core.Path.{_≡_}
+use mathlib.Core.Bool.{cond}
+use lib.Dec.{eqb}
+use Rattle.load_file.specs.declared.Cell.{Cell}
+use Rattle.load_file.specs.Offset.{ahead}
+use Rattle.load_file.specs.Types.{Field, A, B}
+
+-- 0 is the A field, any other number the B field
+abbrev pub fieldBy : ℕ → Field
+fieldBy n = cond (eqb n 0) A B
+
+-- a sum, reduced to a place or a number of the core
+pub record Reduced (size a b r : ℕ) : Type 0 where
+  pub is : r ≡ ahead size a b
+  pub below : r < size
+
+-- a cell's opcode, modifier and numbers, with the modes of another
+abbrev pub copyOf : Cell → Cell → Cell
+copyOf to from =
+    record { opcode = from .opcode; modifier = from .modifier; «a_mode» = to .«a_mode»; «b_mode» = to .«b_mode»; a = from .a; b = from .b }

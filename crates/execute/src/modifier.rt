@@ -1,0 +1,31 @@
+// Which number fields meet, by modifier (01, 'One step').
+ghost use mathlib.Core.Path.{_≡_};
+ghost use Rattle.execute.specs.Acts.{metOf};
+use crate::word::number;
+use load_file::offset::Relative;
+use load_file::types::pairs_of;
+
+// The first and the last pair of register numbers, the same one where there is one, and their target fields.
+pub struct Met {
+    pub a1: Relative,
+    pub b1: Relative,
+    pub a2: Relative,
+    pub b2: Relative,
+    pub t1: u8,
+    pub t2: u8,
+}
+
+// The numbers of both registers that meet.
+pub fn meet(modifier: u8, ra: u64, rb: u64) -> Met
+    ensures { λ r. ⌜ r ≡ metOf modifier ra rb ⌝ }
+{
+    let p = pairs_of(modifier);
+    Met {
+        a1: number(ra, p.a1),
+        b1: number(rb, p.b1),
+        a2: number(ra, p.a2),
+        b2: number(rb, p.b2),
+        t1: p.b1,
+        t2: p.b2,
+    }
+}
