@@ -1,0 +1,3 @@
+pub mod Draft
+pub mod Comparison
+pub mod Departures
