@@ -1,3 +1,5 @@
 pub mod Numbers
 pub mod Cores
 pub mod Operands
+pub mod Rows
+pub mod Whole
