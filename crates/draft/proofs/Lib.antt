@@ -3,3 +3,4 @@ pub mod Cores
 pub mod Operands
 pub mod Rows
 pub mod Whole
+pub mod Effects
