@@ -4,3 +4,5 @@ pub mod Operands
 pub mod Rows
 pub mod Whole
 pub mod Effects
+pub mod Places
+pub mod Agreement
