@@ -6,3 +6,4 @@ pub mod Whole
 pub mod Effects
 pub mod Places
 pub mod Agreement
+pub mod Battles

@@ -1,5 +1,4 @@
--- One step of the ICWS'94 draft, in the manner and with the names of its sample interpreter: IR is the instruction as fetched,
--- IRA and IRB are the registers, RPA, WPA, RPB and WPB the pointers from PC, folded by the read limit and the write limit.
+-- One step of the ICWS'94 draft on unpacked cells, in the manner and with the names of its sample interpreter.
 -- Assumes nothing. Of 01's machine it shares the record of a cell with its codes, and nothing of operands or execution.
 use Prim.Native.Nat.{ℕ, zero, suc, _+_, _-_, _*_, _/_, _%_}
 use mathlib.Core.Bool.{Bool, cond, not, _&&_}
@@ -12,6 +11,9 @@ use Rattle.load_file.specs.Cells.{relative, number, withNumber}
 use Rattle.load_file.specs.Types.{Field}
 use Rattle.load_file.specs.Types
 use Rattle.load_file.specs.Opcode as opcode
+
+-- IR is the instruction as fetched, IRA and IRB are the registers; RPA, WPA, RPB and WPB are the pointers of the operands, taken from PC:
+-- copies and jumps go by RP, folded by the read limit, changes and stores by WP, folded by the write limit
 
 pub data Opcode : Type 0 where
   DAT MOV ADD SUB MUL DIV MOD JMP JMZ JMN DJN SEQ SNE SLT SPL NOP : Opcode
