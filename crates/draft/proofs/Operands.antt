@@ -18,7 +18,7 @@ use Rattle.load_file.specs.Mode.{PreDecIndirectB, PostIncIndirectA, PostIncIndi
 use Rattle.load_file.specs.Cells.{unpacked, number}
 use Rattle.load_file.proofs.Offsets.{ahead-lt}
 use Rattle.load_file.proofs.Words.{InRange}
-use Rattle.machine.specs.Pointers.{changed, less, more, Operand, operand}
+use Rattle.machine.specs.Pointers.{changed, less, more, operand}
 use Rattle.machine.proofs.Pointers.{length-operand}
 use Rattle.draft.specs.Draft.{Fold, at, assign, modes, immediate, direct, indirect, predecrement, postincrement, decrement, evaluate, through}
 use Rattle.draft.specs.Draft

@@ -14,7 +14,7 @@ use Rattle.load_file.specs.Opcode.{CMP, SEQ}
 use Rattle.load_file.specs.Modifier as modifier
 use Rattle.load_file.specs.Cells.{packed, unpacked}
 use Rattle.load_file.proofs.Words.{InRange, cell-ext, unpack-pack}
-use Rattle.machine.specs.Execution.{Scene, equal}
+use Rattle.machine.specs.Execution.{equal}
 use Rattle.draft.specs.Draft.{modifiers, I, test, under, oneCode, sameInstruction}
 use Rattle.draft.specs.Departures.{twins}
 use Rattle.draft.proofs.Numbers.{below}

@@ -10,7 +10,6 @@ use Rattle.load_file.specs.Opcode.{MOV, DIV, MOD, JMZ, DJN, CMP, SEQ, SPL}
 use Rattle.load_file.specs.Modifier as modifier
 use Rattle.load_file.specs.Mode as mode
 use Rattle.program.specs.Program.{lawful, lowestFault, cells}
-use Rattle.machine.specs.State.{Machine}
 use Rattle.machine.specs.Names.{register, numbered}
 use Rattle.machine.specs.Queue.{entries, pop, push, started}
 use Rattle.machine.specs.Soundness.{soundHeader, soundEntry}

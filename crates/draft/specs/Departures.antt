@@ -2,7 +2,7 @@
 -- Assumes nothing. 7, one queue and one limit, is outside the step comparison.
 use Prim.Native.Nat.{ℕ}
 use mathlib.Core.Bool.{Bool, not, _&&_, _||_}
-use mathlib.Core.List.{List, [], _∷_}
+use mathlib.Core.List.{[], _∷_}
 use lib.Dec.{eqb}
 use Rattle.laws.specs.Lists.{among}
 use Rattle.load_file.specs.declared.Cell.{Cell}
