@@ -9,6 +9,7 @@ MODIFIERS = "A B AB BA F X I".split()
 MODES = "#$*@{<}>"
 UNFOLDING = ("unfolding soundWord lawful lowestFault cells register numbered entries pop push started soundHeader soundEntry fresh loaded load "
              "operand effectOf effect coreAfter stepWrites counted executed step Draft.step")
+KINDS = "no departure", "departures 1 to 5", "departure 6", "B mode #"
 LINE = re.compile(r"(\d{5})   (?:([A-Z]{3})\.([A-Z]{1,2})\s+(\S)\s*(-?\d+),\s*(\S)\s*(-?\d+))?")
 
 
@@ -21,12 +22,12 @@ def generate(rng, i):
     size = rng.randint(2, 13)
     few = rng.choice([2, 3, 99])
     numbers = rng.choice([[0, 1, size - 1], range(size)])
-    kinds = [[rng.randrange(17), rng.randrange(7), rng.randrange(8), rng.randrange(8)] for _ in range(few)]
+    kinds = [[rng.randrange(17), rng.randrange(7), rng.randrange(8), rng.randrange(8), rng.choice(numbers), rng.choice(numbers)] for _ in range(few)]
     if rng.randrange(4) == 0:
         kinds[:2] = [draft.CMP] + kinds[0][1:], [draft.SEQ] + kinds[0][1:]
-    core = [rng.choice(kinds) + [rng.choice(numbers), rng.choice(numbers)] for _ in range(size)]
+    core = [list(rng.choice(kinds)) for _ in range(size)]
     pc = rng.randrange(size - 1)
-    core[pc][:4] = [i % 17, i // 17 % 7, i // 119 % 8, i // 952 % 8]
+    core[pc] = [i % 17, i // 17 % 7, i // 119 % 8, i // 952 % 8, rng.choice(numbers), rng.choice(numbers)]
     return core, pc
 
 
@@ -83,9 +84,9 @@ def write_crate(folder, rows):
     for n in range(0, len(rows), 100):
         part = rows[n:n + 100]
         clear = sum(1 for core, pc, _, _ in part if not draft.departures(core, pc))
-        out += f"\nabbrev rows{n} : List Row\nrows{n} =\n"
+        out += f"\nabbrev rows{n} : List Row\nrows{n} =\n    "
         for core, pc, after, places in part:
-            out += f"    row {pc} ({antt(map(word, core))}) ({antt(map(word, after))}) ({antt(places)})\n    ∷ "
+            out += f"row {pc} ({antt(map(word, core))}) ({antt(map(word, after))}) ({antt(places)})\n    ∷ "
         out += f"[]\n\npub played{n} : Played rows{n} {clear}\n{UNFOLDING}\nplayed{n} = (refl, refl, refl)\n"
     (crate / "proofs/Played.antt").write_text(out)
 
@@ -102,13 +103,13 @@ def main():
             model = [list(c) for c in core]
             same = draft.step(model, pc) == places and model == after
             apply = draft.departures(core, pc)
-            kind = "B mode #" if known(core, pc) else "departure 6" if 6 in apply else "departures 1 to 5" if apply else "no departure"
+            kind = KINDS[3 if known(core, pc) else 2 if 6 in apply else 1 if apply else 0]
             tally[kind, same] += 1
-            if kind[0] in "dn" and 6 not in apply:
+            if kind in KINDS[:2]:
                 rows.append((core, pc, after, places))
                 if not same:
                     print("differs:", pc, [text(c) for c in core], "pMARS:", [text(c) for c in after], places, "draft:", [text(c) for c in model])
-    for kind in ("no departure", "departures 1 to 5", "departure 6", "B mode #"):
+    for kind in KINDS:
         print(f"{kind}: {tally[kind, True]} agreed, {tally[kind, False]} differed")
     if len(sys.argv) > 4:
         write_crate(pathlib.Path(sys.argv[4]), rows[:int(sys.argv[5])])

@@ -51,7 +51,7 @@ divides m = among (DIV ∷ MOD ∷ []) (instruction m .opcode)
 abbrev pub testsBoth : Machine → Bool
 testsBoth m = eqb (instruction m .opcode) JMZ && among (F ∷ X ∷ I ∷ []) (instruction m .modifier)
 
--- 6. A CMP cell compared with a SEQ cell
+-- 6. A CMP cell compared with a SEQ cell: cells are compared under I, the A register with the target cell
 abbrev pub twins : Cell → Cell → Bool
 twins c d = eqb (c .opcode) CMP && eqb (d .opcode) SEQ || eqb (c .opcode) SEQ && eqb (d .opcode) CMP
 

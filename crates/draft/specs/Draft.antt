@@ -1,5 +1,5 @@
 -- One step of the ICWS'94 draft on unpacked cells, in the manner and with the names of its sample interpreter.
--- Assumes nothing. Of 01's machine it shares the record of a cell with its codes, and nothing of operands or execution.
+-- Assumes nothing. Of 01's machine it shares the record of a cell, with its number fields and codes, and nothing of operands or execution.
 use Prim.Native.Nat.{ℕ, zero, suc, _+_, _-_, _*_, _/_, _%_}
 use mathlib.Core.Bool.{Bool, cond, not, _&&_}
 use mathlib.Core.List.{List, [], _∷_}
