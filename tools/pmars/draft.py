@@ -1,4 +1,4 @@
-# The draft's step, line by line as crates/draft/specs/Draft.antt has it, and where a departure applies (Departures.antt).
+# The draft's step, line by line as crates/draft/specs has it in Evaluation.antt and Draft.antt, and where a departure applies (Departures.antt).
 # A cell is [opcode, modifier, A mode, B mode, A number, B number], by 01's codes; the model changes the core that it is given.
 DAT, MOV, ADD, SUB, MUL, DIV, MOD, JMP, JMZ, JMN, DJN, CMP, SEQ, SNE, SLT, SPL, NOP = range(17)
 A, B, AB, BA, F, X, I = range(7)

@@ -28,7 +28,8 @@ use Rattle.machine.proofs.Checks.{passes}
 use Rattle.machine.proofs.Queue.{entries-pop}
 use Rattle.machine.proofs.Soundness.{sound-entry}
 use Rattle.machine.proofs.Step.{step-by-cases, step-executed, nonzero, counting}
-use Rattle.draft.specs.Draft.{State, Done, modifiers, I, modes, immediate, evaluate, execute, opcodes, NOP, obey}
+use Rattle.draft.specs.Evaluation.{modes, immediate, evaluate}
+use Rattle.draft.specs.Draft.{State, Done, modifiers, I, execute, opcodes, NOP, obey}
 use Rattle.draft.specs.Draft
 use Rattle.draft.specs.Comparison.{cells, unlimited, drafted, places, room}
 use Rattle.draft.specs.Departures.{scene, locationB, readsAgain, keepsModes, hitsTarget, divides, testsBoth, comparesTwins, departs}

@@ -15,7 +15,7 @@ use Rattle.load_file.specs.Types.{Field, A, B}
 use Rattle.load_file.specs.Cells.{packed, unpacked, number, withNumber}
 use Rattle.load_file.proofs.Words.{InRange, unpack-pack}
 use Rattle.machine.specs.Pointers.{changed}
-use Rattle.draft.specs.Draft.{Fold, at, assign}
+use Rattle.draft.specs.Evaluation.{Fold, at, assign}
 
 -- a word's cell is in range, and stays so with a number that is
 pub word-range : (w : ℕ) → InRange (unpacked w)

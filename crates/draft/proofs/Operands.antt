@@ -20,8 +20,7 @@ use Rattle.load_file.proofs.Offsets.{ahead-lt}
 use Rattle.load_file.proofs.Words.{InRange}
 use Rattle.machine.specs.Pointers.{changed, less, more, operand}
 use Rattle.machine.proofs.Pointers.{length-operand}
-use Rattle.draft.specs.Draft.{Fold, at, assign, modes, immediate, direct, indirect, predecrement, postincrement, decrement, evaluate, through}
-use Rattle.draft.specs.Draft
+use Rattle.draft.specs.Evaluation.{Operand, Fold, at, assign, modes, immediate, direct, indirect, predecrement, postincrement, decrement, evaluate, through}
 use Rattle.draft.specs.Comparison.{unlimited}
 use Rattle.draft.proofs.Numbers.{below}
 use Rattle.draft.proofs.Cores.{word-range, reads, changes, place-direct, place-through, changed-same, changed-other, changed-b, number-with}
@@ -35,7 +34,7 @@ apart i n l hi hn nz e = go (ltb (i + n) l) refl
     go false t = let h : l ≤ i + n = ltb-false _ _ t in let f : i ≡ i + n - l = e ∙ mod-eq-sub-mod h ∙ mod-eq-of-lt (omega arith) in omega arith
 
 -- a core, a pointer and a register of the machine, and the draft's operand
-pub record Same (M PC : ℕ) (words : List ℕ) (p : ℕ) (c : Cell) (d : Draft.Operand) : Type 0 where
+pub record Same (M PC : ℕ) (words : List ℕ) (p : ℕ) (c : Cell) (d : Operand) : Type 0 where
   pub core : map unpacked words ≡ d .core
   pub read : (PC + d .RP) % M ≡ p
   pub write : (PC + d .WP) % M ≡ p

@@ -15,7 +15,8 @@ use Rattle.load_file.specs.Types.{Field, A, B, pairs}
 use Rattle.load_file.specs.Cells.{number, withNumber}
 use Rattle.load_file.proofs.Words.{InRange}
 use Rattle.machine.specs.Execution.{Met, goes, stored, computes}
-use Rattle.draft.specs.Draft.{modifiers, I, at, assign, compute, test}
+use Rattle.draft.specs.Evaluation.{at, assign}
+use Rattle.draft.specs.Draft.{modifiers, I, compute, test}
 use Rattle.draft.proofs.Numbers.{below}
 use Rattle.draft.proofs.Cores.{with-range}
 

@@ -8,7 +8,8 @@ use Rattle.load_file.specs.Cells.{unpacked}
 use Rattle.machine.specs.State.{Machine}
 use Rattle.machine.specs.Queue.{unpackedEntry, entries}
 use Rattle.machine.specs.Step.{pc}
-use Rattle.draft.specs.Draft.{Rules, Done, step}
+use Rattle.draft.specs.Evaluation.{Rules}
+use Rattle.draft.specs.Draft.{Done, step}
 
 -- the core, unpacked
 abbrev pub cells : Machine → List Cell

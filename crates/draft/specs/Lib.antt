@@ -1,3 +1,4 @@
+pub mod Evaluation
 pub mod Draft
 pub mod Comparison
 pub mod Departures
