@@ -79,8 +79,8 @@ def write_crate(folder, rows):
     (crate / "specs/Lib.antt").write_text("pub mod Played\n")
     (crate / "proofs/Lib.antt").write_text("pub mod Played\n")
     here = pathlib.Path(__file__).parent
-    (crate / "specs/Played.antt").write_text((here / "Played.antt").read_text())
-    out = (here / "Theorem.antt").read_text()
+    (crate / "specs/Played.antt").write_text((here / "Played.antt.txt").read_text())
+    out = (here / "Theorem.antt.txt").read_text()
     for n in range(0, len(rows), 100):
         part = rows[n:n + 100]
         clear = sum(1 for core, pc, _, _ in part if not draft.departures(core, pc))
