@@ -1,0 +1,32 @@
+-- What of a machine's step is compared with the draft's: the core's cells, and the places queued.
+-- Assumes nothing. The draft's limits are both M (01 has none).
+use Prim.Native.Nat.{ℕ, _-_}
+use mathlib.Core.List.{List, map}
+use lib.ListN.{length}
+use Rattle.load_file.specs.declared.Cell.{Cell}
+use Rattle.load_file.specs.Cells.{unpacked}
+use Rattle.machine.specs.State.{Machine}
+use Rattle.machine.specs.Queue.{unpackedEntry, entries}
+use Rattle.machine.specs.Step.{pc}
+use Rattle.draft.specs.Evaluation.{Rules}
+use Rattle.draft.specs.Draft.{Done, step}
+
+-- the core, unpacked
+abbrev pub cells : Machine → List Cell
+cells m = map unpacked (m .core)
+
+-- both limits M
+abbrev pub unlimited : ℕ → Rules
+unlimited size = record { M = size; ReadLimit = size; WriteLimit = size }
+
+-- the draft's step of the machine's core, from the front entry's place
+abbrev pub drafted : Machine → Done
+drafted m = step (unlimited (m .header .size)) (cells m) (pc m)
+
+-- the places queued, in order
+abbrev pub places : Machine → List ℕ
+places m = map (λ w. unpackedEntry w .place .0) (entries m)
+
+-- how many entries the process limit has room for once the front entry is popped
+abbrev pub room : Machine → ℕ
+room m = length (m .queue) - (m .header .length - 1)

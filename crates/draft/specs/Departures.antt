@@ -1,0 +1,63 @@
+-- A departure applies: 01, 'Departures from the draft', 1 to 6, in its words. They are wider than the true differences.
+-- Assumes nothing. 7, one queue and one limit, is outside the step comparison.
+use Prim.Native.Nat.{ℕ}
+use mathlib.Core.Bool.{Bool, not, _&&_, _||_}
+use mathlib.Core.List.{[], _∷_}
+use lib.Dec.{eqb}
+use Rattle.laws.specs.Lists.{among}
+use Rattle.load_file.specs.declared.Cell.{Cell}
+use Rattle.load_file.specs.Offset.{ahead}
+use Rattle.load_file.specs.Opcode.{MOV, DIV, MOD, JMZ, DJN, CMP, SEQ, SNE}
+use Rattle.load_file.specs.Modifier.{F, X, I}
+use Rattle.load_file.specs.Mode.{PreDecIndirectB, PostIncIndirectA, PostIncIndirectB}
+use Rattle.machine.specs.State.{Machine}
+use Rattle.machine.specs.Execution.{Scene}
+use Rattle.machine.specs.Instruction.{fetched, sceneAt}
+use Rattle.machine.specs.Step.{pc, instruction, operandA, operandB}
+
+-- the machine's registers and live target cell
+abbrev pub scene : Machine → Scene
+scene m = sceneAt (m .header .size) (m .core) (pc m)
+
+-- CMP, SEQ, SNE under I
+abbrev pub comparesWhole : Cell → Bool
+comparesWhole c = among (CMP ∷ SEQ ∷ SNE ∷ []) (c .opcode) && eqb (c .modifier) I
+
+-- 1. A mode `<` or `>` with A number 0
+abbrev pub readsAgain : Machine → Bool
+readsAgain m = among (PreDecIndirectB ∷ PostIncIndirectB ∷ []) (instruction m .«a_mode») && eqb (instruction m .a .0) 0
+
+-- 2. MOV.I where modes differ: those of the A register and of the target cell
+abbrev pub keepsModes : Machine → Bool
+keepsModes m =
+    let s = scene m in
+    eqb (instruction m .opcode) MOV && eqb (instruction m .modifier) I
+    && not (eqb (s .ra .«a_mode») (s .live .«a_mode») && eqb (s .ra .«b_mode») (s .live .«b_mode»))
+
+-- 3. CMP, SEQ, SNE under I, or DJN, when B's increment hits the target cell: it is made at B's location, the target is at the B pointer
+abbrev pub locationB : Machine → ℕ
+locationB m = ahead (m .header .size) (pc m) (fetched (operandA m .core) (pc m) .b .0)
+
+abbrev pub hitsTarget : Machine → Bool
+hitsTarget m =
+    (comparesWhole (instruction m) || eqb (instruction m .opcode) DJN)
+    && (among (PostIncIndirectA ∷ PostIncIndirectB ∷ []) (instruction m .«b_mode») && eqb (locationB m) (operandB m .pointer))
+
+-- 4. DIV, MOD
+abbrev pub divides : Machine → Bool
+divides m = among (DIV ∷ MOD ∷ []) (instruction m .opcode)
+
+-- 5. JMZ under F, X, I
+abbrev pub testsBoth : Machine → Bool
+testsBoth m = eqb (instruction m .opcode) JMZ && among (F ∷ X ∷ I ∷ []) (instruction m .modifier)
+
+-- 6. A CMP cell compared with a SEQ cell: cells are compared under I, the A register with the target cell
+abbrev pub twins : Cell → Cell → Bool
+twins c d = eqb (c .opcode) CMP && eqb (d .opcode) SEQ || eqb (c .opcode) SEQ && eqb (d .opcode) CMP
+
+abbrev pub comparesTwins : Machine → Bool
+comparesTwins m = comparesWhole (instruction m) && twins (scene m .ra) (scene m .live)
+
+-- a departure applies
+abbrev pub departs : Machine → Bool
+departs m = readsAgain m || keepsModes m || hitsTarget m || divides m || testsBoth m || comparesTwins m

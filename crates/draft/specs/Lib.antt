@@ -1,0 +1,5 @@
+pub mod Evaluation
+pub mod Draft
+pub mod Comparison
+pub mod Departures
+pub mod Battles
