@@ -1,29 +1,27 @@
 -- What one step gives, answer by answer, of a machine whose header is sound.
 -- Assumes nothing.
 use mathlib.Core.Path.{_≡_, refl, sym, ap, ap₂, _∙_}
-use mathlib.Core.Bool.{Bool, true, false, cond, not, _&&_, _||_}
-use mathlib.Core.List.{List, [], _∷_}
-use mathlib.Core.Option.{Option, none}
-use Prim.Native.Nat.{ℕ, _+_, _≤_, _<_}
+use mathlib.Core.Bool.{Bool, true, false, cond, not}
+use mathlib.Core.List.{List, []}
+use mathlib.Core.Option.{Option}
+use Prim.Native.Nat.{ℕ, _+_, _<_}
 use native.Mathlib.Omega.{arith}
-use lib.Dec.{eqb, leb, ltb}
+use lib.Dec.{eqb}
 use lib.ListN.{length, getD}
-use borrow.Author.Tests.{le-leb, lt-ltb, eq-eqb, ne-eqb}
+use borrow.Author.Tests.{lt-ltb, eq-eqb, ne-eqb}
 use Rattle.answer.specs.Numbers.{Told, told, gives}
 use Rattle.answer.specs.declared.Answer.{Answer}
-use Rattle.answer.specs.declared.Answer.the-variants.{Done, NoRemainingProcesses, NumbersExhausted, UnsoundRecord, PrivateMemory, ExecuteDat, DivideByZero}
+use Rattle.answer.specs.declared.Answer.the-variants.{Done, NoRemainingProcesses, NumbersExhausted, UnsoundRecord, PrivateMemory, DivideByZero}
 use Rattle.laws.proofs.Every.{_and_, every-or}
 use Rattle.load_file.specs.declared.Cell.{Cell}
 use Rattle.load_file.specs.Offset.{ahead}
-use Rattle.load_file.specs.Cells.{soundWord}
-use Rattle.machine.specs.declared.Entry.{Entry}
-use Rattle.machine.specs.State.{Machine, Outcome, Verdict, accepted, refusal, first, settle}
-use Rattle.machine.specs.Queue.{entry, unpackedEntry, front, full, pop, push, started}
+use Rattle.machine.specs.State.{Machine, Verdict, accepted, refusal, first, settle}
+use Rattle.machine.specs.Queue.{entry, front, full, pop, push, started}
 use Rattle.machine.specs.Soundness.{soundHeader, soundEntry}
 use Rattle.machine.specs.Execution.{Ending, dat, divisor, Next, ends, goes, splits, Effect, Scene, some?, onward, going, isNone, computes, moved, copied, sum, difference, product, quotient, remainder, effects, effectOf}
 use Rattle.machine.specs.Instruction.{sceneAt, effectAt, coreAt, writesAt}
 use Rattle.machine.specs.Step as spec
-use Rattle.machine.specs.Step.{popped, pc, operandA, operandB, effect, stepWrites, counted, Queued, queued, endTold, nextTold, executed, stepChecks, step}
+use Rattle.machine.specs.Step.{popped, pc, effect, stepWrites, counted, Queued, queued, endTold, nextTold, executed, stepChecks, step}
 use Rattle.machine.proofs.Names.{Shape}
 use Rattle.machine.proofs.Soundness.{SoundHeader, sound-header, SoundEntry, sound-entry}
 use Rattle.execute.specs.declared.Executed.{Executed}
@@ -255,7 +253,7 @@ module _ (m : Machine) (sound : soundHeader m ≡ true) (shape : Shape (m .heade
             pub splits-step : (child w : ℕ) {next : ℕ} {queue counts threads : List ℕ} {head len : ℕ} → executedAt (m .header .size) (m .core) (pc m) ≡ is.Splits child w
                 → next ≡ ahead (m .header .size) (pc m) 1
                 → queueOf queue head len counts threads
-                  ≡ startIf child (popped m .name) (threaded (m .header .threads) (pushIf (entry next (popped m .thread) (popped m .name)) (popIf (queueOf (m .queue) (m .header .head) (m .header .length) (m .header .counts) []))))
+                ≡ startIf child (popped m .name) (threaded (m .header .threads) (pushIf (entry next (popped m .thread) (popped m .name)) (popIf (queueOf (m .queue) (m .header .head) (m .header .length) (m .header .counts) []))))
                 → given Done w 1 (turned (m .header) (m .header .steps + 1) core queue head len counts threads) ≡ givenBy (step m)
             unfolding by-next
             splits-step child w {next = next} x o q =

@@ -10,7 +10,6 @@ use lib.Dec.{eqb, leb}
 use lib.ListN.{length, getD, set, length-set}
 use lib.Seq.{getD-set-same}
 use borrow.Author.Tests.{leb-true, lt-ltb, ne-eqb}
-use Rattle.laws.specs.Lists.{total}
 use Rattle.laws.proofs.Tests.{both, and-true}
 use Rattle.laws.proofs.Tally.{count-le}
 use Rattle.machine.specs.declared.Entry.{Entry}
@@ -101,7 +100,7 @@ module _ (m : Machine) (s : SoundHeader m) (e : SoundEntry (m .header) (front m)
         = getD-set-same (m .header .counts) who _ 0 (omega arith) in
         let b = ap (λ (i : ℕ). getD (set (set (m .header .counts) who (getD (m .header .counts) who 0 - 1)) i (getD (set (m .header .counts) who (getD (m .header .counts) who 0 - 1)) i 0 + 1)) who 0) n in
         let d : getD (set (set (m .header .counts) who (getD (m .header .counts) who 0 - 1)) who (getD (set (m .header .counts) who (getD (m .header .counts) who 0 - 1)) who 0 + 1)) who 0
-            ≡ getD (set (m .header .counts) who (getD (m .header .counts) who 0 - 1)) who 0 + 1
+        ≡ getD (set (m .header .counts) who (getD (m .header .counts) who 0 - 1)) who 0 + 1
         = getD-set-same (set (m .header .counts) who (getD (m .header .counts) who 0 - 1)) who _ 0 (rw length-set (omega arith)) in
         omega arith
 

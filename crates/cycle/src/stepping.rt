@@ -5,20 +5,18 @@ ghost use Rattle.answer.specs.Numbers.{told, gives};
 ghost use mathlib.Core.Bool.{cond};
 ghost use lib.Dec.{eqb};
 ghost use Rattle.machine.specs.Step as spec;
-ghost use Rattle.cycle.specs.Turn.{turned};
 ghost use Rattle.cycle.specs.Given.{given, givenBy, Ready, parts};
-
 use crate::turn::go_on;
 use crate::turn::split;
 use answer::Answer;
-use execute::execute;
 use execute::Executed;
-use load_file::offset::sum;
+use execute::execute;
 use load_file::offset::Absolute;
+use load_file::offset::sum;
 use machine::Entry;
 use process::entry::unpack;
-use process::queue::pop;
 use process::queue::Ring;
+use process::queue::pop;
 use process::soundness::sound_front;
 
 // What a step answers, with its writes and steps, and the ring and the steps taken afterwards.
@@ -98,7 +96,13 @@ pub fn step_once<'a>(
                 name: e.name,
             };
             let after = go_on(queue, ring, counts, next);
-            Stepped { answer: Answer::Done, writes, steps: 1, ring: after, taken: taken + 1 }
+            Stepped {
+                answer: Answer::Done,
+                writes,
+                steps: 1,
+                ring: after,
+                taken: taken + 1,
+            }
         }
         Executed::Splits(child, writes) => {
             let next = Entry {
@@ -107,17 +111,35 @@ pub fn step_once<'a>(
                 name: e.name,
             };
             let after = split(queue, ring, counts, threads, next, Absolute(child));
-            Stepped { answer: Answer::Done, writes, steps: 1, ring: after, taken: taken + 1 }
+            Stepped {
+                answer: Answer::Done,
+                writes,
+                steps: 1,
+                ring: after,
+                taken: taken + 1,
+            }
         }
         Executed::Dat(writes) => {
             let after = pop(queue, ring, counts);
             let answer = ending(Answer::ExecuteDat(e.place.0), counts[who]);
-            Stepped { answer, writes, steps: 1, ring: after, taken: taken + 1 }
+            Stepped {
+                answer,
+                writes,
+                steps: 1,
+                ring: after,
+                taken: taken + 1,
+            }
         }
         Executed::DivideByZero(writes) => {
             let after = pop(queue, ring, counts);
             let answer = ending(Answer::DivideByZero, counts[who]);
-            Stepped { answer, writes, steps: 1, ring: after, taken: taken + 1 }
+            Stepped {
+                answer,
+                writes,
+                steps: 1,
+                ring: after,
+                taken: taken + 1,
+            }
         }
     }
 }

@@ -3,13 +3,12 @@ ghost use mathlib.Core.Path.{_≡_};
 ghost use mathlib.Core.List.{[]};
 ghost use Rattle.process.specs.Parts.{queueOf, popIf, pushIf, startIf};
 ghost use Rattle.cycle.specs.Turn.{threaded};
-
 use load_file::offset::Absolute;
 use machine::Entry;
+use process::queue::Ring;
 use process::queue::pop;
 use process::queue::push;
 use process::queue::start;
-use process::queue::Ring;
 
 // The process goes on: its next place is pushed.
 pub fn go_on(queue: &mut [u64], ring: Ring, counts: &mut [u32; 16], next: Entry) -> Ring

@@ -4,10 +4,9 @@ use mathlib.Core.Path.{_≡_, refl}
 use mathlib.Core.List.{List, [], _∷_, _++_, map}
 use Prim.Native.Nat.{ℕ, zero, suc, _+_}
 use lib.ListN.{replicate}
-use Rattle.answer.specs.Numbers.{Told, gives}
+use Rattle.answer.specs.Numbers.{gives}
 use Rattle.load_file.specs.Cells.{soundWord}
 use Rattle.program.specs.Program.{lawful, lowestFault, cells}
-use Rattle.machine.specs.declared.Header.{Header}
 use Rattle.machine.specs.State.{Machine, Outcome, toldBy}
 use Rattle.machine.specs.Names.{register, numbered}
 use Rattle.machine.specs.Queue.{push, started}

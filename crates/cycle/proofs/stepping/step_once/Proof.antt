@@ -6,17 +6,16 @@ use Rattle.cycle.proofs.stepping.step_once.Tie as tie
 use mathlib.Core.Bool.{cond}
 use lib.Dec.{eqb}
 use Rattle.answer.specs.Numbers.{gives}
-use mathlib.Core.Path.{_≡_, sym, ap, _∙_, refl}
+use mathlib.Core.Path.{sym, ap, _∙_}
 use mathlib.Core.List.{[]}
-use Prim.Native.Nat.{ℕ, _<_, _+_}
+use Prim.Native.Nat.{ℕ, _<_}
 use native.Mathlib.Omega.{arith}
 use lib.ListN.{length, getD}
 use Rattle.laws.proofs.Tests.{refuted, upheld}
 use Rattle.load_file.specs.Offset.{ahead}
 use Rattle.load_file.proofs.Offsets.{sum-is}
 use Rattle.machine.specs.declared.Entry.{Entry}
-use Rattle.machine.specs.Queue.{entry, front}
-use Rattle.machine.specs.Soundness.{soundEntry}
+use Rattle.machine.specs.Queue.{entry}
 use Rattle.machine.proofs.Soundness.{sound-header, size-positive}
 use Rattle.process.specs.Parts.{queueOf, popIf, pushIf, startIf}
 use Rattle.process.proofs.Headers.{entry-by-parts}
