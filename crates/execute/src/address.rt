@@ -211,6 +211,15 @@ fn refuse_both() -> Operands
     }
 }
 
+// Puts back the word that was at a location.
+fn put_back(core: &mut [u64], location: Absolute, old: u64)
+    requires { ⌜ location .0 < length (now core) ⌝ }
+    ensures { λ _. ⌜ now (core .exit) ≡ set (now (core .entry)) (location .0) old ⌝ }
+{
+    let at = location.0 as usize;
+    core[at] = old;
+}
+
 // Both operands, A first; where a cell that B reads is unsound, the one cell that A changed is put back.
 pub fn evaluate(core: &mut [u64], size: u32, pc: Absolute, here: u64) -> Operands
     requires { ⌜ Fetched size (now core) (pc .0) here ⌝ }
@@ -223,8 +232,7 @@ pub fn evaluate(core: &mut [u64], size: u32, pc: Absolute, here: u64) -> Operand
     let b = b_operand(core, size, pc, here);
     if !b.sound {
         let location = a.location;
-        let at = location.0 as usize;
-        core[at] = a.old;
+        put_back(core, location, a.old);
         return refuse_both();
     }
     let jump = a.pointer;

@@ -4,10 +4,9 @@ use borrow.Author.Needs.{needs}
 use Rattle.execute.proofs.address.evaluate.Statement.{statement}
 use Rattle.execute.proofs.address.evaluate.Tie as tie
 use native.Mathlib.Omega.{arith}
-use lib.ListN.{length-set}
 use borrow.Author.Tests.{not-true, not-false}
 use Rattle.execute.proofs.Evaluation.{no-a, again, location-below, length-refused, writes-both, no-b, yes-both}
-use mathlib.Core.Path.{_≡_}
+use mathlib.Core.Path.{_≡_, _∙_}
 use mathlib.Core.Bool.{true}
 
 a-sound : (c : tie.Else1) → c .before .before .before .before .a-operand .result .sound ≡ true
@@ -28,23 +27,17 @@ returns c = rw (c .refuse-both .ensures) (no-a _ (c .before .before .before .bef
 b-operand-requires : tie.Need-b-operand-requires
 b-operand-requires c κs = again _ (c .before .before .before .before .before .before .before .before .args .core .now) _ _ (c .before .before .before .before .before .before .before .before .pre) _ _ (c .before .before .before .before .before .a-operand .ensures) (a-sound (c .before))
 
-cast-at : tie.Need-cast-at
-cast-at c = search needs
-
-mul-core : tie.Need-mul-core
-mul-core c = search needs
-
-slice-write-core : tie.Need-slice-write-core
-slice-write-core c = let h = location-below _ (c .before .before .before .before .before .before .before .before .before .before .before .before .before .before .before .args .core .now) _ _ (c .before .before .before .before .before .before .before .before .before .before .before .before .before .before .before .pre) _ _ (c .before .before .before .before .before .before .before .before .before .before .before .before .a-operand .ensures) (a-sound (c .before .before .before .before .before .before .before .before)) in let l = length-refused _ (c .before .before .before .before .before .before .before .before .before .before .before .before .before .before .before .args .core .now) _ _ (c .before .before .before .before .before .before .before .before .before .before .before .before .before .before .before .pre) _ _ (c .before .before .before .before .before .before .before .before .before .before .before .before .a-operand .ensures) (a-sound (c .before .before .before .before .before .before .before .before)) _ _ (c .before .before .before .before .before .before .b-operand .ensures) (not-true _ (c .before .before .if2 .taken)) in omega arith
+put-back-requires : tie.Need-put-back-requires
+put-back-requires c κs = let h = location-below _ (c .before .before .before .before .before .before .before .before .before .before .before .before .before .before .before .args .core .now) _ _ (c .before .before .before .before .before .before .before .before .before .before .before .before .before .before .before .pre) _ _ (c .before .before .before .before .before .before .before .before .before .before .before .before .a-operand .ensures) (a-sound (c .before .before .before .before .before .before .before .before)) in let l = length-refused _ (c .before .before .before .before .before .before .before .before .before .before .before .before .before .before .before .args .core .now) _ _ (c .before .before .before .before .before .before .before .before .before .before .before .before .before .before .before .pre) _ _ (c .before .before .before .before .before .before .before .before .before .before .before .before .a-operand .ensures) (a-sound (c .before .before .before .before .before .before .before .before)) _ _ (c .before .before .before .before .before .before .b-operand .ensures) (not-true _ (c .before .before .if2 .taken)) in omega arith
 
 refuse-both-requires-2 : tie.Need-refuse-both-requires-2
 refuse-both-requires-2 c κs = search needs
 
 same-length-2 : tie.Need-same-length-2
-same-length-2 c = simp length-set (length-refused _ (c .before .before .before .before .before .before .before .before .before .before .before .before .before .before .before .before .args .core .now) _ _ (c .before .before .before .before .before .before .before .before .before .before .before .before .before .before .before .before .pre) _ _ (c .before .before .before .before .before .before .before .before .before .before .before .before .before .a-operand .ensures) (a-sound (c .before .before .before .before .before .before .before .before .before)) _ _ (c .before .before .before .before .before .before .before .b-operand .ensures) (not-true _ (c .before .before .before .if2 .taken)))
+same-length-2 c = search needs
 
 returns-2 : tie.Need-returns-2
-returns-2 c = rw (c .refuse-both2 .ensures) (no-b _ (c .before .before .before .before .before .before .before .before .before .before .before .before .before .before .before .before .args .core .now) _ _ (c .before .before .before .before .before .before .before .before .before .before .before .before .before .before .before .before .pre) _ _ (c .before .before .before .before .before .before .before .before .before .before .before .before .before .a-operand .ensures) (a-sound (c .before .before .before .before .before .before .before .before .before)) _ _ (c .before .before .before .before .before .before .before .b-operand .ensures) (not-true _ (c .before .before .before .if2 .taken)))
+returns-2 c = let n = no-b _ (c .before .before .before .before .before .before .before .before .before .before .before .before .before .before .before .before .before .before .before .args .core .now) _ _ (c .before .before .before .before .before .before .before .before .before .before .before .before .before .before .before .before .before .before .before .pre) _ _ (c .before .before .before .before .before .before .before .before .before .before .before .before .before .before .before .before .a-operand .ensures) (a-sound (c .before .before .before .before .before .before .before .before .before .before .before .before)) _ _ (c .before .before .before .before .before .before .before .before .before .before .b-operand .ensures) (not-true _ (c .before .before .before .before .before .before .if2 .taken)) in (c .refuse-both2 .ensures ∙ n .0, c .before .before .before .put-back .ensures ∙ n .1)
 
 add-writes : tie.Need-add-writes
 add-writes c = let h = writes-both _ (c .before .before .before .before .before .before .before .before .before .before .before .before .before .before .before .before .before .args .core .now) _ _ (c .before .before .before .before .before .before .before .before .before .before .before .before .before .before .before .before .before .pre) _ _ (c .before .before .before .before .before .before .before .before .before .before .before .before .before .before .a-operand .ensures) (a-sound (c .before .before .before .before .before .before .before .before .before .before)) _ _ (c .before .before .before .before .before .before .before .before .b-operand .ensures) (not-false _ (c .before .before .before .before .if2 .left)) in record { fits = omega arith }
@@ -64,9 +57,7 @@ evaluate-spec =
     same-length
     returns
     b-operand-requires
-    cast-at
-    mul-core
-    slice-write-core
+    put-back-requires
     refuse-both-requires-2
     same-length-2
     returns-2
