@@ -1,4 +1,5 @@
 // Step and run (01, 'One step').
 
+mod running;
 mod stepping;
 mod turn;

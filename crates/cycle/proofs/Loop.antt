@@ -1,114 +1,20 @@
-The run loop of crate cycle: src/running.rt, then proofs/Loop.antt (every law of it is accepted; is_done and run_loop are not proved yet).
-
-==== crates/cycle/src/running.rt
-// The run loop on the lent parts of a record whose header is sound (01, 'One step', its last paragraph).
-ghost use mathlib.Core.Path.{_≡_};
-ghost use Prim.Native.Nat.{_≤_};
-ghost use lib.Dec.{eqb};
-ghost use Rattle.answer.specs.Numbers.{told};
-ghost use Rattle.machine.specs.declared.Ceiling.the-variants.{Steps};
-ghost use Rattle.machine.specs.Run as spec;
-ghost use Rattle.cycle.specs.Given.{given, givenBy, Ready, parts};
-
-use crate::stepping::step_once;
-use answer::Answer;
-use process::queue::Ring;
-
-// What a run answers, with its writes and steps, and the ring and the steps taken afterwards.
-pub struct Ran {
-    pub answer: Answer,
-    pub writes: u64,
-    pub steps: u64,
-    pub ring: Ring,
-    pub taken: u32,
-}
-
-// Whether an answer is 0.
-fn is_done(answer: Answer) -> bool
-    ensures { λ r. ⌜ r ≡ eqb (told answer .number) 0 ⌝ }
-{
-    match answer {
-        Answer::Done => true,
-        Answer::InvalidCoreSize => false,
-        Answer::InvalidMemory => false,
-        Answer::WarriorTooLong => false,
-        Answer::InvalidCode(_) => false,
-        Answer::InvalidNameOrPlace => false,
-        Answer::NoRoom => false,
-        Answer::NoRemainingProcesses => false,
-        Answer::NumbersExhausted => false,
-        Answer::UnsoundRecord => false,
-        Answer::PrivateMemory => false,
-        Answer::ExecuteDat(_) => false,
-        Answer::DivideByZero => false,
-        Answer::Malformed(_) => false,
-    }
-}
-
-// Steps while steps taken are below the ceiling, up to the first answer not 0.
-pub fn run_loop<'a>(
-    core: &mut [u64],
-    queue: &mut [u64],
-    counts: &mut [u32; 16],
-    threads: &mut [u32; 16],
-    names: &'a [u8; 512],
-    lengths: &'a [u8; 16],
-    size: u32,
-    held: u32,
-    ring: Ring,
-    taken: u32,
-    ceiling: u64,
-) -> Ran
-    requires { ⌜ Ready (parts (now core) (now queue) size (ring .head) (ring .length) taken held (now names) (now lengths) (now counts) (now threads)) ⌝ }
-    ensures { λ r. ⌜ given (r .answer) (r .writes) (r .steps)
-        (parts (now (core .exit)) (now (queue .exit)) size (r .ring .head) (r .ring .length) (r .taken) held (now (names .entry)) (now (lengths .entry)) (now (counts .exit)) (now (threads .exit)))
-        ≡ givenBy (spec.run (Steps ceiling) (parts (now (core .entry)) (now (queue .entry)) size (ring .head) (ring .length) taken held (now (names .entry)) (now (lengths .entry)) (now (counts .entry)) (now (threads .entry)))) ⌝ }
-{
-    let mut head = ring.head;
-    let mut length = ring.length;
-    let mut done = taken;
-    let mut writes: u64 = 0;
-    while (done as u64) < ceiling {
-        let s = step_once(
-            core, queue, counts, threads, names, lengths, size, held, Ring { head, length }, done,
-        );
-        head = s.ring.head;
-        length = s.ring.length;
-        done = s.taken;
-        writes = writes + s.writes as u64;
-        let answer = s.answer;
-        if !is_done(answer) {
-            let steps = (done - taken) as u64;
-            return Ran { answer, writes, steps, ring: Ring { head, length }, taken: done };
-        }
-    }
-    let steps = (done - taken) as u64;
-    Ran { answer: Answer::Done, writes, steps, ring: Ring { head, length }, taken: done }
-}
-
-==== crates/cycle/proofs/Loop.antt
 -- What is left to run gives what the whole run gives.
 -- Assumes nothing.
 use mathlib.Core.Path.{_≡_, refl, sym, ap, ap₂, _∙_, subst}
-use mathlib.Core.Bool.{Bool, true, false}
-use mathlib.Core.List.{List}
+use mathlib.Core.Bool.{true, false}
 use Prim.Native.Nat.{ℕ, _+_, _-_, _*_, _≤_, _<_}
 use native.Mathlib.Nat.{add-zero, zero-add, add-assoc}
 use native.Mathlib.Omega.{arith}
 use lib.Dec.{eqb}
 use borrow.Author.Tests.{eqb-true}
-use lib.ListN.{length}
 use Rattle.answer.specs.declared.Answer.{Answer}
 use Rattle.answer.specs.declared.Answer.the-variants.{Done}
-use Rattle.answer.specs.Numbers.{Told, told, gives}
-use Rattle.laws.specs.Lists.{oneIf, among}
-use Rattle.machine.specs.declared.Ceiling.{Ceiling}
+use Rattle.answer.specs.Numbers.{Told, told}
+use Rattle.laws.specs.Lists.{oneIf}
 use Rattle.machine.specs.declared.Ceiling.the-variants.{Steps}
 use Rattle.machine.specs.State.{Machine, Outcome, toldBy}
-use Rattle.machine.specs.Soundness.{soundHeader}
 use Rattle.machine.specs.Step.{step, executes}
-use Rattle.machine.specs.Run.{joined, ceilingOf, run}
-use Rattle.machine.proofs.Names.{Shape}
+use Rattle.machine.specs.Run.{joined, run}
 use Rattle.machine.proofs.Soundness.{SoundHeader, sound-header, header-sound}
 use Rattle.machine.proofs.Step.{step-sound, step-counts}
 use Rattle.machine.proofs.Run.{run-done, run-stop, run-on}
@@ -171,7 +77,7 @@ module _ (ceiling : ℕ) (start m : Machine) (w : ℕ) (g : Going ceiling start 
         let s = g .since in
         omega arith
 
-    onward : start .header .steps ≤ n .header .steps
+    pub onward : start .header .steps ≤ n .header .steps
     onward =
         let c = step-counts m in
         let a : n .header .steps ≡ step m .machine .header .steps = ap (λ (x : Machine). x .header .steps) next-is in
@@ -193,6 +99,9 @@ module _ (ceiling : ℕ) (start m : Machine) (w : ℕ) (g : Going ceiling start 
       one : step m .steps ≡ 1
       one = step-counts m .1 ∙ ap (λ (k : ℕ). oneIf (executes k)) zero-is
 
+      pub rises : m .header .steps < n .header .steps
+      rises = let d = further in let u = one in let f = g .since in let o = onward in omega arith
+
       next-sound : SoundHeader n
       next-sound = subst SoundHeader (sym next-is) (step-sound m here)
 
@@ -208,9 +117,9 @@ module _ (ceiling : ℕ) (start m : Machine) (w : ℕ) (g : Going ceiling start 
             since = onward;
             few = let f = g .few in let d = further in let u = one in omega arith;
             same =
-              ap₂ (λ (i j : ℕ). after (w + i) j (run (Steps ceiling) n)) writes-are further
-              ∙ ap (λ (k : Machine). after (w + step m .writes) ((m .header .steps - start .header .steps) + step m .steps) (run (Steps ceiling) k)) next-is
-              ∙ sym (joined-is (step m) (run (Steps ceiling) (step m .machine)))
-              ∙ ap (after w (m .header .steps - start .header .steps)) (sym (run-on (Steps ceiling) m (shape-of m (g .ready)) below (ap (λ (k : ℕ). eqb k 0) zero-is)))
-              ∙ g .same;
+                ap₂ (λ (i j : ℕ). after (w + i) j (run (Steps ceiling) n)) writes-are further
+                ∙ ap (λ (k : Machine). after (w + step m .writes) ((m .header .steps - start .header .steps) + step m .steps) (run (Steps ceiling) k)) next-is
+                ∙ sym (joined-is (step m) (run (Steps ceiling) (step m .machine)))
+                ∙ ap (after w (m .header .steps - start .header .steps)) (sym (run-on (Steps ceiling) m (shape-of m (g .ready)) below (ap (λ (k : ℕ). eqb k 0) zero-is)))
+                ∙ g .same;
           }
