@@ -1,3 +1,4 @@
 pub mod Turns
 pub mod Answers
 pub mod Loop
+pub mod Calls

@@ -1,0 +1,31 @@
+-- What step and run give of a whole record.
+-- Assumes nothing.
+use mathlib.Core.Path.{_≡_, ap}
+use Prim.Native.Nat.{ℕ}
+use mathlib.Core.Bool.{true, false}
+use lib.ListN.{length}
+use Rattle.answer.specs.declared.Answer.the-variants.{UnsoundRecord}
+use Rattle.machine.specs.State.{Machine}
+use Rattle.machine.specs.Soundness.{soundHeader}
+use Rattle.machine.specs.Step.{step}
+use Rattle.machine.specs.declared.Ceiling.{Ceiling}
+use Rattle.machine.specs.declared.Ceiling.the-variants.{Steps}
+use Rattle.machine.specs.Run.{ceilingOf, run}
+use Rattle.cycle.specs.Given.{given, givenBy, Ready}
+
+pub unsound-step : (m : Machine) → soundHeader m ≡ false → given UnsoundRecord 0 0 m ≡ givenBy (step m)
+unfolding step
+unsound-step m e = simp e
+
+pub ready : (m : Machine) → soundHeader m ≡ true
+    → (length (m .header .names) ≡ 512) × (length (m .header .lengths) ≡ 16) × (length (m .header .counts) ≡ 16) × (length (m .header .threads) ≡ 16) → Ready m
+ready m s l = record { sound = s; names = l .0; lengths = l .1; counts = l .2; threads = l .3 }
+
+pub unsound-run : (ceiling : Ceiling) (m : Machine) → soundHeader m ≡ false → given UnsoundRecord 0 0 m ≡ givenBy (run ceiling m)
+unfolding run
+unsound-run ceiling m e = simp e
+
+-- a run goes by its ceiling's number
+pub run-by : (ceiling : Ceiling) (m : Machine) {limit : ℕ} → limit ≡ ceilingOf ceiling → givenBy (run (Steps limit) m) ≡ givenBy (run ceiling m)
+unfolding run
+run-by ceiling m e = ap (λ (k : ℕ). givenBy (run (Steps k) m)) e
