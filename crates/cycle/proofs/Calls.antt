@@ -1,4 +1,4 @@
--- What step and run give of a whole record.
+-- What run gives of a whole record.
 -- Assumes nothing.
 use mathlib.Core.Path.{_≡_, ap}
 use Prim.Native.Nat.{ℕ}
@@ -7,15 +7,10 @@ use lib.ListN.{length}
 use Rattle.answer.specs.declared.Answer.the-variants.{UnsoundRecord}
 use Rattle.machine.specs.State.{Machine}
 use Rattle.machine.specs.Soundness.{soundHeader}
-use Rattle.machine.specs.Step.{step}
 use Rattle.machine.specs.declared.Ceiling.{Ceiling}
 use Rattle.machine.specs.declared.Ceiling.the-variants.{Steps}
 use Rattle.machine.specs.Run.{ceilingOf, run}
 use Rattle.cycle.specs.Given.{given, givenBy, Ready}
-
-pub unsound-step : (m : Machine) → soundHeader m ≡ false → given UnsoundRecord 0 0 m ≡ givenBy (step m)
-unfolding step
-unsound-step m e = simp e
 
 pub ready : (m : Machine) → soundHeader m ≡ true
     → (length (m .header .names) ≡ 512) × (length (m .header .lengths) ≡ 16) × (length (m .header .counts) ≡ 16) × (length (m .header .threads) ≡ 16) → Ready m

@@ -6,7 +6,6 @@ ghost use Rattle.machine.specs.Run as spec;
 ghost use Rattle.process.specs.Parts.{machineOf};
 ghost use Rattle.cycle.specs.Given.{given, givenBy};
 use crate::running::run_loop;
-use crate::stepping::step_once;
 use answer::Answer;
 use machine::Ceiling;
 use machine::Header;
@@ -38,68 +37,6 @@ fn sized<'a>(
     let _l = &lengths[..];
     let _c = &counts[..];
     let _t = &threads[..];
-}
-
-// Executes one instruction of the process at the front.
-pub fn step(core: &mut [u64], queue: &mut [u64], h: Header) -> Outcome
-    ensures { λ r. ⌜ given (r .answer) (r .writes) (r .steps) (machineOf (now (core .exit)) (now (queue .exit)) (r .header))
-        ≡ givenBy (one.step (machineOf (now (core .entry)) (now (queue .entry)) h)) ⌝ }
-{
-    if !sound_header(
-        core,
-        queue,
-        h.size,
-        h.head,
-        h.length,
-        h.held,
-        &h.names,
-        &h.lengths,
-        &h.counts,
-    ) {
-        return Outcome {
-            answer: Answer::UnsoundRecord,
-            writes: 0,
-            steps: 0,
-            header: h,
-        };
-    }
-    sized(&h.names, &h.lengths, &h.counts, &h.threads);
-    let mut counts = h.counts;
-    let mut threads = h.threads;
-    let ring = Ring {
-        head: h.head,
-        length: h.length,
-    };
-    let s = step_once(
-        core,
-        queue,
-        &mut counts,
-        &mut threads,
-        &h.names,
-        &h.lengths,
-        h.size,
-        h.held,
-        ring,
-        h.steps,
-    );
-    let answer = s.answer;
-    let header = Header {
-        size: h.size,
-        head: s.ring.head,
-        length: s.ring.length,
-        steps: s.taken,
-        held: h.held,
-        names: h.names,
-        lengths: h.lengths,
-        counts,
-        threads,
-    };
-    Outcome {
-        answer,
-        writes: s.writes as u64,
-        steps: s.steps as u64,
-        header,
-    }
 }
 
 // A ceiling on total steps; none is 10,000.
@@ -174,4 +111,13 @@ pub fn run(core: &mut [u64], queue: &mut [u64], h: Header, ceiling: Ceiling) -> 
         steps: s.steps,
         header,
     }
+}
+
+// Executes one instruction of the process at the front: a run with a ceiling of one more step.
+pub fn step(core: &mut [u64], queue: &mut [u64], h: Header) -> Outcome
+    ensures { λ r. ⌜ given (r .answer) (r .writes) (r .steps) (machineOf (now (core .exit)) (now (queue .exit)) (r .header))
+        ≡ givenBy (one.step (machineOf (now (core .entry)) (now (queue .entry)) h)) ⌝ }
+{
+    let ceiling = h.steps as u64 + 1;
+    run(core, queue, h, Ceiling::Steps(ceiling))
 }

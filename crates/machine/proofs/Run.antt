@@ -9,6 +9,7 @@ use lib.Dec.{eqb}
 use lib.ListN.{length}
 use borrow.Author.Tests.{eqb-true}
 use Rattle.machine.specs.declared.Ceiling.{Ceiling}
+use Rattle.machine.specs.declared.Ceiling.the-variants.{Steps}
 use Rattle.machine.specs.State.{Machine, Outcome, accepted, refusal, settle}
 use Rattle.machine.specs.Soundness.{soundHeader}
 use Rattle.machine.specs.Step.{step, executes}
@@ -16,7 +17,7 @@ use Rattle.machine.specs.Run.{joined, plays, ceilingOf, run}
 use Rattle.machine.proofs.Checks.{Refused, refused}
 use Rattle.machine.proofs.Names.{Shape}
 use Rattle.machine.proofs.Soundness.{SoundHeader, header-sound}
-use Rattle.machine.proofs.Step.{step-executed, step-counts, step-lengths, ready, step-sound}
+use Rattle.machine.proofs.Step.{step-executed, step-counts, step-value, step-lengths, ready, step-sound}
 
 -- an unsound header: 9, and nothing is done
 pub run-unsound : (c : Ceiling) (m : Machine) → soundHeader m ≡ false → run c m ≡ settle (refusal 9 0) m (plays (ceilingOf c - m .header .steps) m)
@@ -60,6 +61,36 @@ module _ (c : Ceiling) (m : Machine) where
       go : (b : Bool) → soundHeader m ≡ b → run c m ≡ step m
       go true s = run-suc s h ∙ ap (λ (b : Bool). cond b (joined (step m) rest) (step m)) e
       go false s = run-unsound c m s ∙ sym (step-unsound m (plays (ceilingOf c - m .header .steps) m) s)
+
+-- with a ceiling of one more step it is that step
+pub run-one : (m : Machine) → run (Steps (m .header .steps + 1)) m ≡ step m
+run-one m = go (eqb (step m .number) 0) (soundHeader m) refl refl
+  where
+    below : m .header .steps < m .header .steps + 1
+    below = omega arith
+
+    none-left : (m .header .steps + 1) - (m .header .steps + 1) ≡ 0
+    none-left = omega arith
+
+    alone : step m .number ≡ 0 → joined (step m) (plays 0 (step m .machine)) ≡ step m
+    alone z = λ i.
+        record {
+          machine = step m .machine;
+          number = sym z i;
+          value = sym (step-value m z) i;
+          writes = add-zero (step m .writes) i;
+          steps = add-zero (step m .steps) i;
+          pushes = add-zero (step m .pushes) i;
+        }
+
+    go : (done sound : Bool) → eqb (step m .number) 0 ≡ done → soundHeader m ≡ sound → run (Steps (m .header .steps + 1)) m ≡ step m
+    go false s e f = run-stop (Steps (m .header .steps + 1)) m below e
+    go true false e f = run-unsound (Steps (m .header .steps + 1)) m f ∙ sym (step-unsound m (plays ((m .header .steps + 1) - m .header .steps) m) f)
+    go true true e f =
+        run-suc (Steps (m .header .steps + 1)) m f below
+        ∙ ap (λ (b : Bool). cond b (joined (step m) (rest (Steps (m .header .steps + 1)) m)) (step m)) e
+        ∙ ap (λ (k : ℕ). joined (step m) (plays k (step m .machine))) none-left
+        ∙ alone (eqb-true (step m .number) 0 e)
 
 -- else it goes on from where the step left the machine
 pub run-on : (c : Ceiling) (m : Machine) → Shape (m .header) → m .header .steps < ceilingOf c → eqb (step m .number) 0 ≡ true

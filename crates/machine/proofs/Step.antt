@@ -148,6 +148,24 @@ step-counts m =
     (λ n v e x. (rw (x, add-zero (m .header .steps)), rw x))
     (λ e. let i = is-executed m in (rw (i .executes) (i .steps), rw (i .executes) (i .counted)))
 
+-- the answer 0 has no value
+value-next : (x : Next) (left place : ℕ) → nextTold x left place .number ≡ 0 → nextTold x left place .value ≡ 0
+value-next (goes p) left place e = refl
+value-next (splits p c) left place e = refl
+value-next (ends x) left place e = go x (eqb left 0) e
+  where
+    go : (x : Ending) (b : Bool) → cond {A = Told} b (endTold x place) (gives 0 0) .number ≡ 0 → cond {A = Told} b (endTold x place) (gives 0 0) .value ≡ 0
+    go dat true e = absurd (omega arith)
+    go dat false e = refl
+    go divisor true e = refl
+    go divisor false e = refl
+
+pub step-value : (m : Machine) → step m .number ≡ 0 → step m .value ≡ 0
+unfolding executed
+step-value m =
+    step-by-cases (λ o. o .number ≡ 0 → o .value ≡ 0) m (λ n v e x z. absurd (true≢false (sym (ap executes z) ∙ x)))
+    (λ e. value-next (effect m .next) _ _)
+
 -- the lengths of core and queue, and the size
 pub step-lengths : (m : Machine)
     → (length (step m .machine .core) ≡ length (m .core)) × (length (step m .machine .queue) ≡ length (m .queue)) × (step m .machine .header .size ≡ m .header .size)
