@@ -7,6 +7,7 @@ ghost use Rattle.machine.specs.Run as spec;
 ghost use Rattle.cycle.specs.Given.{given, givenBy, Ready, parts};
 use crate::stepping::step_once;
 use answer::Answer;
+use answer::number;
 use process::queue::Ring;
 
 // What a run answers, with its writes and steps, and the ring and the steps taken afterwards.
@@ -22,22 +23,7 @@ pub struct Ran {
 fn is_done(answer: Answer) -> bool
     ensures { λ r. ⌜ r ≡ eqb (told answer .number) 0 ⌝ }
 {
-    match answer {
-        Answer::Done => true,
-        Answer::InvalidCoreSize => false,
-        Answer::InvalidMemory => false,
-        Answer::WarriorTooLong => false,
-        Answer::InvalidCode(_) => false,
-        Answer::InvalidNameOrPlace => false,
-        Answer::NoRoom => false,
-        Answer::NoRemainingProcesses => false,
-        Answer::NumbersExhausted => false,
-        Answer::UnsoundRecord => false,
-        Answer::PrivateMemory => false,
-        Answer::ExecuteDat(_) => false,
-        Answer::DivideByZero => false,
-        Answer::Malformed(_) => false,
-    }
+    number(answer) == 0
 }
 
 // Steps while steps taken are below the ceiling, up to the first answer not 0.

@@ -12,7 +12,7 @@ use std::panic::{catch_unwind, set_hook, AssertUnwindSafe};
 use oracle::core::Core;
 
 use reading::{call, Call, Failure};
-use words::{digest, word};
+use words::{digest, entry, word};
 
 // A panic's message as one word.
 fn reason(panic: &(dyn Any + Send)) -> String {
@@ -24,8 +24,31 @@ fn reason(panic: &(dyn Any + Send)) -> String {
     format!("panic:{}", words.join("-"))
 }
 
-// The state as it is; `names` are those by first accepted load.
-fn state(core: &Core, names: &[String], whole: bool, out: &mut impl Write) -> io::Result<()> {
+// How much is written of what a call left.
+#[derive(Clone, Copy, PartialEq)]
+enum Form {
+    Brief,
+    Long,
+    Whole,
+}
+
+// The state in numbers alone; `names` are those by first accepted load.
+fn brief(core: &Core, names: &[String], out: &mut impl Write) -> io::Result<()> {
+    let index = |name: &String| names.iter().position(|n| n == name).expect("a loaded name");
+    let queue: Vec<u64> = core.queued().iter().map(|e| entry(e.offset.value(), e.thread, index(&e.name))).collect();
+    let cells: Vec<u64> = core.cells().iter().map(word).collect();
+    write!(out, " {} {} {} {}", core.steps_taken(), queue.len(), digest(&queue), digest(&cells))?;
+    for name in names {
+        write!(out, " {}.{}", core.counts()[name], core.next_threads()[name])?;
+    }
+    writeln!(out)
+}
+
+// The state as it is.
+fn state(core: &Core, names: &[String], form: Form, out: &mut impl Write) -> io::Result<()> {
+    if form == Form::Brief {
+        return brief(core, names, out);
+    }
     write!(out, " {} |", core.steps_taken())?;
     for e in core.queued() {
         write!(out, " {}.{}.{}", e.offset.value(), e.thread, e.name)?;
@@ -36,8 +59,8 @@ fn state(core: &Core, names: &[String], whole: bool, out: &mut impl Write) -> io
         write!(out, " {count}.{next}.{name}")?;
     }
     let cells: Vec<u64> = core.cells().iter().map(word).collect();
-    write!(out, " | {:016x}", digest(&cells))?;
-    if whole {
+    write!(out, " | {}", digest(&cells))?;
+    if form == Form::Whole {
         write!(out, " |")?;
         for cell in &cells {
             write!(out, " {cell:x}")?;
@@ -47,7 +70,7 @@ fn state(core: &Core, names: &[String], whole: bool, out: &mut impl Write) -> io
 }
 
 // Plays one battle; true where a call panicked, which ends it.
-fn battle(line: &str, whole: bool, out: &mut impl Write) -> Result<bool, Failure> {
+fn battle(line: &str, form: Form, out: &mut impl Write) -> Result<bool, Failure> {
     let words: Vec<&str> = line.split_whitespace().collect();
     let mut calls = words.split(|w| *w == "|");
     let [size] = calls.next().unwrap_or_default() else {
@@ -55,7 +78,10 @@ fn battle(line: &str, whole: bool, out: &mut impl Write) -> Result<bool, Failure
     };
     let mut core = Core::new(size.parse()?)?;
     let mut names: Vec<String> = Vec::new();
-    writeln!(out, "{line}")?;
+    let mark = if form == Form::Brief { "" } else { "> " };
+    if form != Form::Brief {
+        writeln!(out, "{line}")?;
+    }
     for words in calls {
         let answer = catch_unwind(AssertUnwindSafe(|| -> Result<(u32, u32), Failure> {
             Ok(match call(words)? {
@@ -68,14 +94,14 @@ fn battle(line: &str, whole: bool, out: &mut impl Write) -> Result<bool, Failure
         match answer {
             Ok(answer) => {
                 let (number, value) = answer?;
-                write!(out, "> {number} {value}")?;
+                write!(out, "{mark}{number} {value}")?;
             }
-            Err(panic) => write!(out, "> {} 0", reason(&*panic))?,
+            Err(panic) => write!(out, "{mark}{} 0", reason(&*panic))?,
         }
         // a call brings one new name at most
         let new = core.counts().keys().find(|name| !names.contains(name));
         names.extend(new.cloned());
-        state(&core, &names, whole, out)?;
+        state(&core, &names, form, out)?;
         if panicked {
             return Ok(true);
         }
@@ -97,15 +123,19 @@ fn silence() -> io::Result<File> {
 fn main() -> Result<(), Failure> {
     let mut errors = silence()?;
     let options: Vec<String> = std::env::args().skip(1).collect();
-    let whole = options == ["--core"];
-    if !whole && !options.is_empty() {
-        writeln!(errors, "usage: oracle [--core] < BATTLES > ANSWERS")?;
-        std::process::exit(2);
-    }
+    let form = match options.iter().map(String::as_str).collect::<Vec<_>>()[..] {
+        [] => Form::Long,
+        ["--core"] => Form::Whole,
+        ["--brief"] => Form::Brief,
+        _ => {
+            writeln!(errors, "usage: oracle [--core | --brief] < BATTLES > ANSWERS")?;
+            std::process::exit(2);
+        }
+    };
     let mut out = BufWriter::new(io::stdout().lock());
     let (mut battles, mut panics) = (0, 0);
     for (i, line) in io::stdin().lock().lines().enumerate() {
-        match battle(&line?, whole, &mut out) {
+        match battle(&line?, form, &mut out) {
             Ok(panicked) => panics += u32::from(panicked),
             Err(e) => {
                 out.flush()?;

@@ -1,4 +1,4 @@
-//! Document 01's numbers for opcodes, modifiers and modes, its word of a cell, and the digest of a core.
+//! Document 01's numbers for opcodes, modifiers and modes, its words of a cell and of a queue entry, and a digest of words.
 
 use oracle::load_file::{AddressMode, Instruction, Modifier, Opcode};
 
@@ -35,11 +35,13 @@ pub fn word(cell: &Instruction) -> u64 {
         | code(&OPCODES, &cell.opcode) << 41
 }
 
-/// FNV-1a, 64 bits, over the words' bytes, low byte first.
+/// A queue entry: place in bits 0 to 15, thread number 16 to 47, name index 48 to 51.
+pub fn entry(place: u32, thread: usize, name: usize) -> u64 {
+    u64::from(place) | (thread as u64) << 16 | (name as u64) << 48
+}
+
+/// From 0, by each word's low and then its high 32 bits: times 65,599, plus these, modulo 4,294,967,291.
 pub fn digest(words: &[u64]) -> u64 {
-    let mut hash: u64 = 0xcbf2_9ce4_8422_2325;
-    for byte in words.iter().flat_map(|w| w.to_le_bytes()) {
-        hash = (hash ^ u64::from(byte)).wrapping_mul(0x0000_0100_0000_01b3);
-    }
-    hash
+    let halves = words.iter().flat_map(|w| [w & 0xffff_ffff, w >> 32]);
+    halves.fold(0, |d, half| (d * 65_599 + half) % 4_294_967_291)
 }

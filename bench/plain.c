@@ -1,0 +1,206 @@
+// The same machine written plainly in C. Cells are unpacked into a struct, places are reduced by `%`, and what
+// document 01 has checked is checked: the front entry and every cell that is read.
+#include "plain.h"
+#include <string.h>
+
+typedef struct {
+    uint32_t opcode, modifier, a_mode, b_mode, number[2];
+} cell;
+
+typedef struct {
+    uint32_t location, pointer, writes;
+    uint64_t old;
+    cell reg;
+} operand;
+
+static const int PAIRS[7] = {1, 1, 1, 1, 2, 2, 2};
+static const int A_FIELD[7][2] = {{0}, {1}, {0}, {1}, {0, 1}, {1, 0}, {0, 1}};
+static const int B_FIELD[7][2] = {{0}, {1}, {1}, {0}, {0, 1}, {0, 1}, {0, 1}};
+
+static cell unpack(uint64_t w) {
+    cell c = {(w >> 41) & 31, (w >> 38) & 7, (w >> 35) & 7, (w >> 32) & 7, {(w >> 16) & 0xffff, w & 0xffff}};
+    return c;
+}
+
+static uint64_t pack(cell c) {
+    return (uint64_t)c.opcode << 41 | (uint64_t)c.modifier << 38 | (uint64_t)c.a_mode << 35 | (uint64_t)c.b_mode << 32 |
+           (uint64_t)c.number[0] << 16 | c.number[1];
+}
+
+static int sound(uint64_t w, uint32_t size) {
+    cell c = unpack(w);
+    return w >> 46 == 0 && c.opcode <= 18 && c.modifier <= 6 && c.number[0] < size && c.number[1] < size;
+}
+
+static int same(cell x, cell y) {
+    return x.opcode == y.opcode && x.modifier == y.modifier && x.a_mode == y.a_mode && x.b_mode == y.b_mode &&
+           x.number[0] == y.number[0] && x.number[1] == y.number[1];
+}
+
+// 0 where a cell that it reads is unsound
+static int evaluate(uint64_t *core, uint32_t size, uint32_t pc, uint32_t mode, uint32_t number, operand *o) {
+    o->location = (pc + number) % size;
+    o->old = core[o->location];
+    o->writes = 0;
+    if (!sound(o->old, size))
+        return 0;
+    if (mode < 2) {
+        o->pointer = mode == 0 ? pc : o->location;
+        o->reg = unpack(core[o->pointer]);
+        return 1;
+    }
+    cell at = unpack(o->old);
+    uint32_t found = at.number[mode % 2];
+    uint32_t used = mode == 4 || mode == 5 ? (found + size - 1) % size : found;
+    o->pointer = (o->location + used) % size;
+    if (!sound(core[o->pointer], size))
+        return 0;
+    if (mode == 4 || mode == 5) {
+        at.number[mode % 2] = used;
+        core[o->location] = pack(at);
+        o->writes = 1;
+    }
+    o->reg = unpack(core[o->pointer]);
+    if (mode == 6 || mode == 7) {
+        at.number[mode % 2] = (found + 1) % size;
+        core[o->location] = pack(at);
+        o->writes = 1;
+    }
+    return 1;
+}
+
+static void push(uint64_t *queue, uint32_t limit, header *h, uint32_t place, uint32_t thread, uint32_t name) {
+    queue[(h->head + h->length) % limit] = (uint64_t)name << 48 | (uint64_t)thread << 16 | place;
+    h->length++;
+    h->counts[name]++;
+}
+
+static uint32_t value(uint32_t opcode, uint32_t size, uint32_t a, uint32_t b) {
+    switch (opcode) {
+    case 1: return a;
+    case 2: return (a + b) % size;
+    case 3: return (b + size - a) % size;
+    case 4: return a * b % size;
+    case 5: return a / b;
+    default: return a % b;
+    }
+}
+
+// one step: 01's order of refusals, then the instruction
+static outcome step(uint64_t *core, uint64_t *queue, uint32_t limit, header *h) {
+    outcome r = {0, 0, 0, 0};
+    uint32_t size = h->size;
+    if (h->length == 0)
+        return r.answer = 7, r;
+    uint64_t e = queue[h->head];
+    uint32_t pc = e & 0xffff, thread = (uint32_t)(e >> 16), name = (e >> 48) & 15;
+    if (e >> 52 || pc >= size || name >= h->held || h->counts[name] == 0)
+        return r.answer = 9, r;
+    if (h->steps == 0xffffffffu || h->threads[name] == 0xffffffffu)
+        return r.answer = 8, r;
+    if (!sound(core[pc], size))
+        return r.answer = 9, r;
+    cell i = unpack(core[pc]);
+    if (i.opcode > 16)
+        return r.answer = 10, r;
+    operand a, b;
+    if (!evaluate(core, size, pc, i.a_mode, i.number[0], &a))
+        return r.answer = 9, r;
+    if (!evaluate(core, size, pc, i.b_mode, unpack(core[pc]).number[1], &b)) {
+        core[a.location] = a.old;
+        return r.answer = 9, r;
+    }
+    h->head = (h->head + 1) % limit;
+    h->length--;
+    h->counts[name]--;
+    h->steps++;
+    r.steps = 1;
+    r.writes = a.writes + b.writes;
+    cell live = unpack(core[b.pointer]), target = live;
+    uint32_t next = (pc + 1) % size;
+    int pairs = PAIRS[i.modifier], some_zero = 0, some_other = 0, some_left = 0, equal = 1, below = 1, stored = 0;
+    for (int k = 0; k < pairs; k++) {
+        uint32_t an = a.reg.number[A_FIELD[i.modifier][k]], bn = b.reg.number[B_FIELD[i.modifier][k]];
+        uint32_t *to = &target.number[B_FIELD[i.modifier][k]];
+        if (bn == 0) some_zero = 1; else some_other = 1;
+        if (an != bn) equal = 0;
+        if (an >= bn) below = 0;
+        if (i.opcode >= 1 && i.opcode <= 6 && !(i.opcode >= 5 && bn == 0)) {
+            *to = value(i.opcode, size, an, bn);
+            stored = 1;
+        }
+        if (i.opcode == 10) {
+            *to = (bn + size - 1) % size;
+            stored = 1;
+            if (*to != 0) some_left = 1;
+        }
+    }
+    if (i.opcode == 1 && i.modifier == 6) {
+        target.opcode = a.reg.opcode;
+        target.modifier = a.reg.modifier;
+    }
+    if (stored) {
+        core[b.pointer] = pack(target);
+        r.writes++;
+    }
+    switch (i.opcode) {
+    case 0:
+        if (h->counts[name] == 0)
+            r.answer = 11, r.place = pc;
+        return r;
+    case 5:
+    case 6:
+        if (some_zero) {
+            if (h->counts[name] == 0)
+                r.answer = 12;
+            return r;
+        }
+        break;
+    case 7: next = a.pointer; break;
+    case 8: if (some_zero) next = a.pointer; break;
+    case 9: if (some_other) next = a.pointer; break;
+    case 10: if (some_left) next = a.pointer; break;
+    case 11:
+    case 12:
+    case 13:
+        if (i.modifier == 6 && !same(a.reg, live)) equal = 0;
+        if (equal == (i.opcode != 13)) next = (pc + 2) % size;
+        break;
+    case 14: if (below) next = (pc + 2) % size; break;
+    }
+    push(queue, limit, h, next, thread, name);
+    if (i.opcode == 15 && h->length < limit)
+        push(queue, limit, h, a.pointer, h->threads[name]++, name);
+    return r;
+}
+
+outcome plain_run(uint64_t *core, uint64_t *queue, uint32_t limit, header *h, uint64_t ceiling) {
+    outcome all = {0, 0, 0, 0};
+    while (h->steps < ceiling) {
+        outcome r = step(core, queue, limit, h);
+        all.answer = r.answer;
+        all.place = r.place;
+        all.writes += r.writes;
+        all.steps += r.steps;
+        if (r.answer)
+            break;
+    }
+    return all;
+}
+
+header plain_fresh(uint32_t size, uint64_t *core, uint64_t *queue, uint32_t limit) {
+    header h;
+    memset(&h, 0, sizeof h);
+    h.size = size;
+    for (uint32_t i = 0; i < size; i++)
+        core[i] = (uint64_t)4 << 38 | (uint64_t)1 << 35 | (uint64_t)1 << 32;
+    memset(queue, 0, limit * sizeof *queue);
+    return h;
+}
+
+void plain_start(uint64_t *queue, uint32_t limit, header *h, const char *name, uint32_t place) {
+    uint32_t k = h->held++;
+    h->lengths[k] = (uint8_t)strlen(name);
+    memcpy(h->names + 32 * k, name, h->lengths[k]);
+    push(queue, limit, h, place, h->threads[k]++, k);
+}
