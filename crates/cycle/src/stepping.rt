@@ -86,6 +86,7 @@ pub fn step_once<'a>(
     if number == 4294967295 {
         return refused(Answer::NumbersExhausted, ring, taken);
     }
+    let more = taken + 1;
     match execute(core, size, e.place) {
         Executed::Unsound => refused(Answer::UnsoundRecord, ring, taken),
         Executed::PrivateMemory => refused(Answer::PrivateMemory, ring, taken),
@@ -101,12 +102,13 @@ pub fn step_once<'a>(
                 writes,
                 steps: 1,
                 ring: after,
-                taken: taken + 1,
+                taken: more,
             }
         }
         Executed::Splits(child, writes) => {
+            let on = sum(e.place.0, 1, size);
             let next = Entry {
-                place: Absolute(sum(e.place.0, 1, size)),
+                place: Absolute(on),
                 thread: e.thread,
                 name: e.name,
             };
@@ -116,7 +118,7 @@ pub fn step_once<'a>(
                 writes,
                 steps: 1,
                 ring: after,
-                taken: taken + 1,
+                taken: more,
             }
         }
         Executed::Dat(writes) => {
@@ -127,7 +129,7 @@ pub fn step_once<'a>(
                 writes,
                 steps: 1,
                 ring: after,
-                taken: taken + 1,
+                taken: more,
             }
         }
         Executed::DivideByZero(writes) => {
@@ -138,7 +140,7 @@ pub fn step_once<'a>(
                 writes,
                 steps: 1,
                 ring: after,
-                taken: taken + 1,
+                taken: more,
             }
         }
     }

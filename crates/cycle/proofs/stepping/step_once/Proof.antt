@@ -97,8 +97,8 @@ enum-known-place c = search needs
 go-on-requires : tie.Need-go-on-requires
 go-on-requires c κs = search needs
 
-add-t54 : tie.Need-add-t54
-add-t54 c = (record { fits = omega (arith, c .before .before .before .before .before .before .before .before .before .before .before .before .before .before .before .before .if3 .left, c .before .before .before .before .before .before .before .before .before .before .before .before .before .before .before .before .before .before .before .before .before .before .before .before .before .before .fits .taken .fits) })
+add-more : tie.Need-add-more
+add-more c = (record { fits = omega (arith, c .before .before .before .before .if3 .left, c .before .before .before .before .before .before .before .before .before .before .before .before .before .before .fits .taken .fits) })
 
 enum-known-child : tie.Need-enum-known-child
 enum-known-child c = search needs
@@ -108,9 +108,6 @@ sum-requires c κs = search needs
 
 split-requires : tie.Need-split-requires
 split-requires c κs = search needs
-
-add-t55 : tie.Need-add-t55
-add-t55 c = (record { fits = omega (arith, c .before .before .before .before .before .before .before .before .before .before .before .before .before .before .before .before .before .before .if3 .left, c .before .before .before .before .before .before .before .before .before .before .before .before .before .before .before .before .before .before .before .before .before .before .before .before .before .before .before .before .fits .taken .fits) })
 
 enum-known-writes : tie.Need-enum-known-writes
 enum-known-writes c = search needs
@@ -127,9 +124,6 @@ element-copy-out-ending c = name-lt (c .before .before .before .before .before .
 ending-requires : tie.Need-ending-requires
 ending-requires c κs = search needs
 
-add-t69 : tie.Need-add-t69
-add-t69 c = (record { fits = omega (arith, c .before .before .before .before .before .before .before .before .before .before .before .before .before .before .before .before .if3 .left, c .before .before .before .before .before .before .before .before .before .before .before .before .before .before .before .before .before .before .before .before .before .before .before .before .before .before .fits .taken .fits) })
-
 enum-known-writes-2 : tie.Need-enum-known-writes-2
 enum-known-writes-2 c = search needs
 
@@ -144,9 +138,6 @@ element-copy-out-ending-2 c = name-lt (c .before .before .before .before .before
 
 ending-requires-2 : tie.Need-ending-requires-2
 ending-requires-2 c κs = search needs
-
-add-t77 : tie.Need-add-t77
-add-t77 c = (record { fits = omega (arith, c .before .before .before .before .before .before .before .before .before .before .before .before .before .before .before .before .if3 .left, c .before .before .before .before .before .before .before .before .before .before .before .before .before .before .before .before .before .before .before .before .before .before .before .before .before .before .fits .taken .fits) })
 
 same-length : tie.Need-same-length
 same-length c = search needs
@@ -216,6 +207,7 @@ step-once-spec =
     element-copy-out-number
     refused-requires-4
     returns-4
+    add-more
     execute-requires
     enum-told
     refused-requires-5
@@ -223,23 +215,19 @@ step-once-spec =
     refused-requires-6
     enum-known-place
     go-on-requires
-    add-t54
     enum-known-child
     sum-requires
     split-requires
-    add-t55
     enum-known-writes
     pop-requires
     mul-ending
     element-copy-out-ending
     ending-requires
-    add-t69
     enum-known-writes-2
     pop-requires-2
     mul-ending-2
     element-copy-out-ending-2
     ending-requires-2
-    add-t77
     same-length
     returns-5
     same-length-2
