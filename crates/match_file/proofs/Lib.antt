@@ -1,0 +1,5 @@
+pub mod Parts
+pub mod Numbers
+pub mod Chains
+pub mod Lines
+pub mod Whole
