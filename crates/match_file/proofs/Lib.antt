@@ -3,3 +3,4 @@ pub mod Numbers
 pub mod Chains
 pub mod Lines
 pub mod Whole
+pub mod Damaged
