@@ -4,3 +4,5 @@ pub mod Chains
 pub mod Lines
 pub mod Whole
 pub mod Damaged
+pub mod Format
+pub mod Warriors
