@@ -31,6 +31,9 @@ module _ (n rest len room : ℕ) where
   pub too-many : 15 < n → false ≡ (ltb n 16 && leb (4 + 43 * (n + 1) + rest + len) room)
   too-many h = simp (le-ltb n 16 (omega arith))
 
+  pub room-for : (ltb n 16 && leb (4 + 43 * (n + 1) + rest + len) room) ≡ true → (n < 16) × (4 + 43 * (n + 1) + rest + len ≤ room)
+  room-for e = let k = both (ltb n 16) (leb (4 + 43 * (n + 1) + rest + len) room) e in (ltb-true n 16 (k .0), leb-true (4 + 43 * (n + 1) + rest + len) room (k .1))
+
   module _ (h : n ≤ 15) where
     pub too-short : room < 4 + 43 * (n + 1) + rest + len → false ≡ (ltb n 16 && leb (4 + 43 * (n + 1) + rest + len) room)
     too-short k = simp (lt-ltb n 16 (omega arith), lt-leb (4 + 43 * (n + 1) + rest + len) room k)
@@ -125,7 +128,7 @@ module _ (f : List ℕ) (n start size : ℕ) (w : Warrior) (out : List ℕ) (ear
             unfolding write
             written e s =
                 let made : List ℕ = file size (ws ++ (w ∷ [])) in
-                let l : room ≤ length out = leb-true room (length out) (both (ltb n 16) (leb room (length out)) e .1) in
+                let l = room-for n (length f - start) (length (w .body)) (length out) e .1 in
                 let h : length made ≡ room = how-long in
                 ap₂ (λ (k : ℕ) (o : List ℕ). given Done k o) (sym h) (s ∙ stored out made (omega arith))
                 ∙ ap (λ (x : Verdict). settle x made out) {x = accepted} (sym passed)
