@@ -2,14 +2,14 @@
 -- Assumes nothing.
 use mathlib.Core.Path.{_≡_, refl, sym, ap, ap₂, _∙_}
 use mathlib.Core.List.{List, _++_}
-use Prim.Native.Nat.{ℕ, zero, suc, _+_, _*_}
+use Prim.Native.Nat.{ℕ, zero, suc, _+_, _*_, _<_}
 use native.Mathlib.Omega.{arith}
 use lib.ListN.{length, getD, drop, take-append-drop}
 use lib.Seq.{drop-length, drop-drop}
 use Rattle.program.specs.Bytes.{part}
 use Rattle.program.specs.Program.{instructions}
 use Rattle.match_file.specs.declared.fault.Fault.the-variants.{Nowhere}
-use Rattle.match_file.specs.Format.{number, bodies}
+use Rattle.match_file.specs.Format.{number, Warrior, bodies}
 use Rattle.match_file.specs.Faults.{linesFault}
 use Rattle.match_file.specs.Reading.{warriorAt, warriorsAt}
 use Rattle.match_file.proofs.Parts.{length-part}
@@ -21,6 +21,11 @@ module _ (f : List ℕ) where
   pub length-warriors : (p n : ℕ) → length (warriorsAt f p n) ≡ n
   length-warriors p zero = refl
   length-warriors p (suc n) = ap suc (length-warriors (p + 43) n)
+
+  pub warrior-at : (p n k : ℕ) (d : Warrior) → k < n → getD (warriorsAt f p n) k d ≡ warriorAt f (p + 43 * k)
+  warrior-at p zero k d h = absurd (let z : ⊥ = omega arith in z)
+  warrior-at p (suc n) zero d h = ap (warriorAt f) (let e : p ≡ p + 43 * 0 = omega arith in e)
+  warrior-at p (suc n) (suc k) d h = warrior-at (p + 43) n k d (omega arith) ∙ ap (warriorAt f) (let e : p + 43 + 43 * k ≡ p + 43 * suc k = omega arith in e)
 
   pub length-body : (q : ℕ) → Kth f q → length (warriorAt f q .body) ≡ 12 * number f (q + 37) 2
   length-body q k = length-part f (number f (q + 33) 4) (12 * number f (q + 37) 2) (omega (arith, k .ends, k .line .start))
