@@ -11,10 +11,6 @@ use Rattle.program.specs.Bytes.{part, value, spelled}
 use Rattle.match_file.specs.Format.{Bytes, number}
 use Rattle.match_file.proofs.Parts.{length-part}
 
-pub length-spelled : (k n : ℕ) → length (spelled k n) ≡ k
-length-spelled zero n = refl
-length-spelled (suc k) n = ap suc (length-spelled k (n / 256))
-
 pub value-spelled : (k n : ℕ) → n < 2 ^ (8 * k) → value (spelled k n) ≡ n
 value-spelled zero n h = omega arith
 value-spelled (suc k) n h =

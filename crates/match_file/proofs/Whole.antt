@@ -1,6 +1,6 @@
 -- A file that reads: what its head, each of its lines and each of its bodies is.
 -- Assumes nothing.
-use mathlib.Core.Path.{_≡_, sym, ap, ap₂, _∙_}
+use mathlib.Core.Path.{_≡_, sym, ap₂, _∙_}
 use mathlib.Core.Bool.{Bool, true, _&&_}
 use mathlib.Core.List.{List, []}
 use Prim.Native.Nat.{ℕ, zero, suc, _+_, _-_, _*_, _≤_, _<_}
@@ -15,7 +15,7 @@ use Rattle.match_file.specs.declared.fault.Fault.{Fault}
 use Rattle.match_file.specs.declared.fault.Fault.the-variants.{Nowhere, At}
 use Rattle.match_file.specs.Format.{number}
 use Rattle.match_file.specs.Faults.{unless, _else_, field, lineFault, linesFault, endFault, fault, faultAt}
-use Rattle.match_file.specs.Reading.{emptied, warriorOf, warriorsIn}
+use Rattle.match_file.specs.Reading.{emptied, warriorOf}
 use Rattle.match_file.proofs.Chains.{else-left, else-right, unless-true, field-fits, field-right}
 use Rattle.match_file.proofs.Lines.{LineOk, line-ok, lines-none, lines-more}
 

@@ -13,6 +13,13 @@ pub enum Fault {
     At(usize),
 }
 
+// Whether a byte is neither below lo nor above hi.
+fn is_within(b: u8, lo: u8, hi: u8) -> bool
+    ensures { λ r. ⌜ r ≡ within lo hi b ⌝ }
+{
+    (lo <= b) & (b <= hi)
+}
+
 // The first byte below lo or above hi, of those from one position up to another.
 fn first_outside(file: &[u8], from: usize, end: usize, lo: u8, hi: u8) -> Fault
     requires { ⌜ (from ≤ end) × (end ≤ length (now file)) ⌝ }
@@ -20,11 +27,7 @@ fn first_outside(file: &[u8], from: usize, end: usize, lo: u8, hi: u8) -> Fault
 {
     let mut i = from;
     while i < end {
-        let b = file[i];
-        if b < lo {
-            return Fault::At(i);
-        }
-        if b > hi {
+        if !is_within(file[i], lo, hi) {
             return Fault::At(i);
         }
         i += 1;

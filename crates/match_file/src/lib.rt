@@ -82,9 +82,9 @@ pub fn name(file: &[u8], number: usize) -> &[u8]
         Fault::At(_) => &file[..0],
         Fault::Nowhere => {
             let at = 4 + 43 * number;
-            let start = at + 1;
-            let end = start + file[at] as usize;
-            &file[start..end]
+            let first = at + 1;
+            let end = first + file[at] as usize;
+            &file[first..end]
         }
     }
 }

@@ -12,7 +12,7 @@ use Rattle.machine.specs.State.{first}
 use Rattle.match_file.specs.declared.fault.Fault.{Fault}
 use Rattle.match_file.specs.declared.fault.Fault.the-variants.{Nowhere, At}
 use Rattle.match_file.specs.Format.{Warrior, file}
-use Rattle.match_file.specs.Faults.{linesFault, fault, faultAt}
+use Rattle.match_file.specs.Faults.{linesFault, fault}
 use Rattle.match_file.specs.Reading.{toldBy, zeroed, warriorsIn, sizeIn, warriorsAt, warriorsOf}
 use Rattle.match_file.proofs.Whole.{head-ok}
 use Rattle.match_write.specs.Writing.{Given, given, settle, malformed, checks, write, writeAdded, Earlier}

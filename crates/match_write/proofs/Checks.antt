@@ -14,9 +14,10 @@ use Rattle.answer.specs.declared.Answer.the-variants.{Done, InvalidCoreSize, Wa
 use Rattle.laws.proofs.Tests.{both, and-false}
 use Rattle.program.specs.Program.{instructions, lowestFault}
 use Rattle.program.specs.Metadata.{validName}
+use Rattle.program.proofs.Names.{valid-name}
 use Rattle.machine.specs.State.{Verdict, accepted, first}
 use Rattle.machine.specs.Soundness.{validSize}
-use Rattle.match_file.specs.Format.{Warrior, bodies, file}
+use Rattle.match_file.specs.Format.{Warrior, file}
 use Rattle.match_file.specs.Reading.{warriorsAt}
 use Rattle.match_file.proofs.Format.{length-more}
 use Rattle.match_file.proofs.Warriors.{length-warriors, bodies-are, short-names}
@@ -100,9 +101,6 @@ module _ (f : List ℕ) (n start size : ℕ) (w : Warrior) (out : List ℕ) (ear
         bad-name h = simp (sized, fits, lawful-body, h)
 
         module _ (v : validName (w .name) ≡ true) where
-          pub short : length (w .name) ≤ 32
-          short = leb-true (length (w .name)) 32 (both (leb (length (w .name)) 32) _ v .0)
-
           pub bad-place : size ≤ w .place → Gives InvalidNameOrPlace
           unfolding write
           bad-place h = simp (sized, fits, lawful-body, v, le-leb size (w .place) h)
@@ -113,7 +111,7 @@ module _ (f : List ℕ) (n start size : ℕ) (w : Warrior) (out : List ℕ) (ear
 
             pub how-long : length (file size (ws ++ (w ∷ []))) ≡ room
             how-long =
-                length-more size n ws w how-many (short-names f 4 start n (earlier .lines)) short
+                length-more size n ws w how-many (short-names f 4 start n (earlier .lines)) (valid-name (w .name) v .0)
                 ∙ ap (λ (k : ℕ). 4 + 43 * (n + 1) + k + length (w .body)) (ap length (bodies-are f 4 start n (earlier .lines)) ∙ length-drop start f)
 
             sixth : (leb 16 (length ws) || ltb (length out) (length (file size (ws ++ (w ∷ []))))) ≡ not (ltb n 16 && leb room (length out))
@@ -123,14 +121,14 @@ module _ (f : List ℕ) (n start size : ℕ) (w : Warrior) (out : List ℕ) (ear
             unfolding write
             no-room e = simp (sized, fits, lawful-body, v, lt-leb size (w .place) p, sixth, e)
 
-            pub written : (ltb n 16 && leb room (length out)) ≡ true → {after : List ℕ} → after ≡ sets out 0 (file size (ws ++ (w ∷ [])))
-                → given Done room after ≡ write size ws w out
+            pub written : (ltb n 16 && leb room (length out)) ≡ true → {t : ℕ} {after : List ℕ} → t ≡ room → after ≡ sets out 0 (file size (ws ++ (w ∷ [])))
+                → given Done t after ≡ write size ws w out
             unfolding write
-            written e s =
+            written e d s =
                 let made : List ℕ = file size (ws ++ (w ∷ [])) in
                 let l = room-for n (length f - start) (length (w .body)) (length out) e .1 in
                 let h : length made ≡ room = how-long in
-                ap₂ (λ (k : ℕ) (o : List ℕ). given Done k o) (sym h) (s ∙ stored out made (omega arith))
+                ap₂ (λ (k : ℕ) (o : List ℕ). given Done k o) (d ∙ sym h) (s ∙ stored out made (omega arith))
                 ∙ ap (λ (x : Verdict). settle x made out) {x = accepted} (sym passed)
               where
                 passed : first (checks size ws w (length out)) ≡ accepted

@@ -6,14 +6,14 @@ use Prim.Native.Nat.{ℕ, _+_, _-_, _*_, _≤_, _<_}
 use native.Mathlib.Nat.{add-assoc}
 use native.Mathlib.Numerals.{add-one}
 use native.Mathlib.Omega.{arith}
-use lib.ListN.{length, getD, set, replicate, length-append, length-replicate}
+use lib.ListN.{length, getD, take, drop, set, replicate, length-append, length-replicate, length-drop}
 use lib.Seq.{sets}
-use Rattle.laws.proofs.Lists.{fall}
+use Rattle.laws.proofs.Lists.{fall, to-end}
 use Rattle.program.specs.Bytes.{spelled}
 use Rattle.program.specs.Program.{instructions}
 use Rattle.match_file.specs.declared.fault.Fault.{Fault}
 use Rattle.match_file.specs.declared.fault.Fault.the-variants.{Nowhere}
-use Rattle.match_file.specs.Format.{Warrior, number, line, lines, bodies, file}
+use Rattle.match_file.specs.Format.{Warrior, line, lines, bodies, file}
 use Rattle.match_file.specs.Faults.{faultAt}
 use Rattle.match_file.specs.Reading.{zeroed, emptied, countOf, warriorAt, warriorOf, warriorsAt}
 use Rattle.match_file.proofs.Parts.{length-part}
@@ -98,6 +98,10 @@ module _ (f : List ℕ) (i : ℕ) (e : faultAt f i ≡ Nowhere) where
       ∙ ap (λ (x : ℕ). to + x) (length-append (w .body) (bodies ws))
       ∙ ap₂ (λ (x y : ℕ). to + (x + length (bodies (warriorsAt f y (n - (i + 1)))))) (sym (its-count ec)) z
       ∙ sym (add-assoc to (12 * c) (length (bodies (warriorsAt f (4 + 43 * (i + 1)) (n - (i + 1))))))
+
+-- how many bytes are left from a position on
+pub rest-length : (f : List ℕ) (start : ℕ) → length (take (length f - start) (drop start f)) ≡ length f - start
+rest-length f start = ap length (to-end f start) ∙ length-drop start f
 
 -- a file with one warrior more, stored by two stores and five calls
 module _ (size n : ℕ) (ws : List Warrior) (w : Warrior) (h : length ws ≡ n) (short : Short ws) (name : length (w .name) ≤ 32) where

@@ -85,10 +85,10 @@ fn write(
     if !has_room(n, rest, body.len(), out.len()) {
         return refuse(Answer::NoRoom);
     }
-    store_file(out, file, n, start, size, name, body, origin, place);
+    let length = store_file(out, file, n, start, size, name, body, origin, place);
     Written {
         answer: Answer::Done,
-        length: 4 + 43 * (n + 1) + rest + body.len(),
+        length,
     }
 }
 

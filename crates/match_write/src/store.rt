@@ -95,7 +95,7 @@ fn put_lines(out: &mut [u8], file: &[u8], n: usize, start: usize, first: usize) 
     to
 }
 
-// Stores the file of a size, of n warriors of a file whose bodies begin at `start`, and of one more.
+// Stores the file of a size, of n warriors of a file whose bodies begin at `start`, and of one more. Gives its length.
 pub fn store_file(
     out: &mut [u8],
     file: &[u8],
@@ -106,11 +106,12 @@ pub fn store_file(
     body: &[u8],
     origin: u16,
     place: u32,
-)
+) -> usize
     requires { ⌜ (n ≤ 15) × Earlier (now file) n start × (length (now name) ≤ 32)
         × (4 + 43 * (n + 1) + (length (now file) - start) + length (now body) ≤ length (now out)) ⌝ }
-    ensures { λ _. ⌜ now (out .exit) ≡ sets (now (out .entry)) 0
-        (format.file size (warriorsAt (now (file .entry)) 4 n ++ (warrior (now (name .entry)) (now (body .entry)) origin place ∷ []))) ⌝ }
+    ensures { λ r. ⌜ (r ≡ 4 + 43 * (n + 1) + (length (now (file .entry)) - start) + length (now (body .entry)))
+        × (now (out .exit) ≡ sets (now (out .entry)) 0
+        (format.file size (warriorsAt (now (file .entry)) 4 n ++ (warrior (now (name .entry)) (now (body .entry)) origin place ∷ [])))) ⌝ }
 {
     let warriors = n + 1;
     out[0] = warriors as u8;
@@ -121,5 +122,7 @@ pub fn store_file(
     put_line(out, 4 + 43 * n, name, to, len(body), origin, place);
     let bodies = &file[start..];
     copy(out, first, bodies);
-    copy(out, first + bodies.len(), body);
+    let end = first + bodies.len();
+    copy(out, end, body);
+    end + body.len()
 }

@@ -1,7 +1,7 @@
 -- What a call that answers 0 tells of its warrior, and what it takes to be accepted.
 -- Assumes nothing.
 use mathlib.Core.Path.{_≡_, refl, sym, ap, _∙_}
-use mathlib.Core.Bool.{true, false, not, _||_}
+use mathlib.Core.Bool.{true, false, not}
 use mathlib.Core.List.{List, [], _∷_, _++_}
 use Prim.Native.Nat.{ℕ, zero, suc, _+_, _*_, _≤_, _<_}
 use native.Mathlib.Omega.{arith}
@@ -9,7 +9,6 @@ use lib.Dec.{leb, ltb}
 use lib.ListN.{length, getD}
 use borrow.Author.Tests.{leb-true, leb-false, ltb-false, le-leb, lt-leb, le-ltb, not-false}
 use Rattle.answer.specs.Numbers.{Told, gives}
-use Rattle.laws.specs.Lists.{every}
 use Rattle.laws.proofs.Tests.{both, neither}
 use Rattle.program.specs.Bytes.{part}
 use Rattle.program.specs.Program.{instructions, lowestFault}
@@ -27,7 +26,7 @@ use Rattle.match_file.proofs.Numbers.{number-lt}
 use Rattle.match_file.proofs.Chains.{all-right}
 use Rattle.match_file.proofs.Whole.{first-line, later-lines, lines-start, Kth}
 use Rattle.match_file.proofs.Warriors.{length-body, count-is}
-use Rattle.match_write.specs.Writing.{settle, malformed, checks}
+use Rattle.match_write.specs.Writing.{settle, checks}
 
 -- no row has the number 0, so a call that answers 0 was accepted
 abbrev Refuses : ℕ → Type 0

@@ -1,38 +1,30 @@
 -- What is written reads back: the lines of a file, and its warriors.
 -- Assumes nothing.
 use mathlib.Core.Path.{_≡_, refl, sym, ap, ap₂, _∙_}
-use mathlib.Core.Bool.{true}
 use mathlib.Core.List.{List, [], _∷_, _++_, append-assoc}
 use Prim.Native.Nat.{ℕ, suc, _+_, _-_, _*_, _^_, _≤_, _<_}
 use native.Mathlib.Nat.{add-zero}
 use native.Mathlib.Omega.{arith}
-use lib.Dec.{leb}
 use lib.ListN.{length, getD, take, drop, replicate, length-append, length-replicate, length-drop}
 use lib.Seq.{drop-drop, getD-drop, take-at, drop-at, drop-append-add}
-use borrow.Author.Tests.{leb-true}
-use Rattle.laws.specs.Lists.{every}
-use Rattle.laws.proofs.Tests.{both}
 use Rattle.program.specs.Bytes.{part, value, spelled}
 use Rattle.program.specs.Program.{instructions}
 use Rattle.program.specs.Metadata.{validByte}
+use Rattle.program.proofs.Names.{valid-name}
 use Rattle.match_file.specs.declared.fault.Fault.{Fault}
 use Rattle.match_file.specs.declared.fault.Fault.the-variants.{Nowhere}
 use Rattle.match_file.specs.Format.{number, Warrior, line, lines, bodies, file, Fits, AllFit}
 use Rattle.match_file.specs.Faults.{_else_, within, linesFault, fault}
-use Rattle.match_file.specs.Reading.{sizeIn, warriorsIn, warriorAt, warriorsAt, warriorsOf}
+use Rattle.match_file.specs.Reading.{sizeIn, warriorAt, warriorsAt, warriorsOf}
 use Rattle.match_file.proofs.Parts.{part-from, part-past}
 use Rattle.match_file.proofs.Numbers.{value-spelled}
 use Rattle.match_file.proofs.Chains.{right-all, zero-all}
 use Rattle.match_file.proofs.Lines.{LineOk, ok-line, lines-more, good-head, good-end}
 use Rattle.match_file.proofs.Format.{Short, lineOf, length-line, length-lines}
 
--- a name that fits: its length, and its bytes
-name-fits : (w : Warrior) → Fits w → (length (w .name) ≤ 32) × (every validByte (w .name) ≡ true)
-name-fits w t = let k = both (leb (length (w .name)) 32) (every validByte (w .name)) (t .name) in (leb-true (length (w .name)) 32 (k .0), k .1)
-
 pub all-short : (ws : List Warrior) → AllFit ws → Short ws
 all-short [] t = tt
-all-short (w ∷ ws) t = (name-fits w (t .0) .0, all-short ws (t .1))
+all-short (w ∷ ws) t = (valid-name (w .name) (t .0 .name) .0, all-short ws (t .1))
 
 -- what a line is read as, where it stands at the head of a list
 module _ (name : List ℕ) (s c o q : ℕ) (r : List ℕ) (h : length name ≤ 32) where
@@ -82,7 +74,7 @@ module _ (f : List ℕ) (p s : ℕ) (w : Warrior) (r : List ℕ) (t : Fits w) (b
   l = lineOf w s
 
   short : length (w .name) ≤ 32
-  short = name-fits w t .0
+  short = valid-name (w .name) (t .name) .0
 
   seen : (i k : ℕ) → part f (p + i) k ≡ part (l ++ r) i k
   seen i k = part-from f p i k ∙ ap (λ (x : List ℕ). part x i k) e
@@ -113,7 +105,7 @@ module _ (f : List ℕ) (p s : ℕ) (w : Warrior) (r : List ℕ) (t : Fits w) (b
       record {
         fits = g .fits;
         short = rw (g .size) short;
-        name = rw (g .size, g .name) (right-all validByte (p + 1) (w .name) (name-fits w t .1));
+        name = rw (g .size, g .name) (right-all validByte (p + 1) (w .name) (valid-name (w .name) (t .name) .1));
         padding = rw (g .size, g .pad) (right-all (within 0 0) (p + 1 + length (w .name)) (replicate (32 - length (w .name)) 0) (zero-all (32 - length (w .name))));
         start = g .start;
       }
@@ -143,7 +135,7 @@ module _ (f : List ℕ) where
       let g = has f p s w x (t .0) (omega arith) e1 in
       let k : s + 12 * number f (p + 37) 2 ≡ m = omega (arith, g .count, t .0 .body) in
       let z : length f - s ≡ length (w .body) + length (bodies ws) = sym (length-drop s f) ∙ ap length d ∙ length-append (w .body) (bodies ws) in
-      let e2 : drop (p + 43) f ≡ x = sym (drop-drop 43 p f) ∙ ap (drop 43) e1 ∙ drop-at l x 43 (length-line (w .name) s (instructions (w .body)) (w .origin) (w .place) (name-fits w (t .0) .0)) in
+      let e2 : drop (p + 43) f ≡ x = sym (drop-drop 43 p f) ∙ ap (drop 43) e1 ∙ drop-at l x 43 (length-line (w .name) s (instructions (w .body)) (w .origin) (w .place) (valid-name (w .name) (t .0 .name) .0)) in
       let d2 : drop m f ≡ bodies ws = sym (drop-drop (length (w .body)) s f) ∙ ap (drop (length (w .body))) d ∙ drop-at (w .body) (bodies ws) (length (w .body)) refl in
       let c : length (w .body) ≤ 786420 = omega (arith, t .0 .body, t .0 .count) in
       let u = lines-back (p + 43) m ws r (t .1) e2 d2 (omega arith) (omega arith) in (
@@ -152,7 +144,6 @@ module _ (f : List ℕ) where
             ∙ u .0,
         ap₂ (λ (y : Warrior) (ys : List Warrior). y ∷ ys) (warrior-back f p s w x (t .0) (omega arith) e1 (bodies ws) d) (u .1),
       )
-
 
 -- f reads as M and these warriors
 pub record As (f : List ℕ) (m : ℕ) (ws : List Warrior) : Type 0 where

@@ -26,8 +26,8 @@ mul-at c = let w = warrior-ok _ _ (sym (c .before .before .first-fault-at .ensur
 add-at : tie.Need-add-at
 add-at c = let w = warrior-ok _ _ (sym (c .before .before .first-fault-at .ensures) ∙ c .enum-told2 .given .1) in omega (arith, w .below, w .head .high)
 
-add-start : tie.Need-add-start
-add-start c = let w = warrior-ok _ _ (sym (c .before .before .first-fault-at .ensures) ∙ c .enum-told2 .given .1) in omega (arith, w .below, w .head .high)
+add-first : tie.Need-add-first
+add-first c = let w = warrior-ok _ _ (sym (c .before .before .first-fault-at .ensures) ∙ c .enum-told2 .given .1) in omega (arith, w .below, w .head .high)
 
 shared-slice-read-end : tie.Need-shared-slice-read-end
 shared-slice-read-end c = let w = warrior-ok _ _ (sym (c .before .before .before .first-fault-at .ensures) ∙ c .before .enum-told2 .given .1) in omega (arith, w .its .line .fits)
@@ -63,7 +63,7 @@ name-spec =
     enum-told-2
     mul-at
     add-at
-    add-start
+    add-first
     shared-slice-read-end
     cast-end
     add-end

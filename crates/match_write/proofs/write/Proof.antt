@@ -5,9 +5,9 @@ use native.Mathlib.Omega.{arith}
 use Prim.Native.Nat.{_-_}
 use lib.ListN.{length}
 use Rattle.laws.proofs.Tests.{refuted, upheld}
-use Rattle.match_file.specs.Format.{warrior}
+use Rattle.program.proofs.Names.{valid-name}
 use Rattle.match_file.proofs.Whole.{lines-start}
-use Rattle.match_write.proofs.Checks.{refusing, too-small, too-large, too-long, bad-code, bad-name, bad-place, short, no-room, room-for, written}
+use Rattle.match_write.proofs.Checks.{refusing, too-small, too-large, too-long, bad-code, bad-name, bad-place, no-room, room-for, written}
 use Rattle.match_write.proofs.write.Statement.{statement}
 use Rattle.match_write.proofs.write.Tie as tie
 
@@ -15,13 +15,17 @@ refuse-requires : tie.Need-refuse-requires
 refuse-requires c κs = search needs
 
 returns : tie.Need-returns
-returns c = refusing (c .before .before .before .before .before .before .args .out .now) (c .refuse .ensures) (too-small (c .before .before .before .before .before .before .args .file .now) (c .before .before .before .before .before .before .args .n) (c .before .before .before .before .before .before .args .start) (c .before .before .before .before .before .before .args .size) (warrior (c .before .before .before .before .before .before .args .name .now) (c .before .before .before .before .before .before .args .body .now) (c .before .before .before .before .before .before .args .origin) (c .before .before .before .before .before .before .args .place)) (c .before .before .before .before .before .before .args .out .now) (c .before .before .before .before .before .before .pre) (c .before .if1 .taken))
+returns c =
+    refusing _ (c .refuse .ensures)
+    (too-small _ _ _ _ _ _ (c .before .before .before .before .before .before .pre) (c .before .if1 .taken))
 
 refuse-requires-2 : tie.Need-refuse-requires-2
 refuse-requires-2 c κs = search needs
 
 returns-2 : tie.Need-returns-2
-returns-2 c = refusing (c .before .before .before .before .before .before .before .args .out .now) (c .refuse2 .ensures) (too-large (c .before .before .before .before .before .before .before .args .file .now) (c .before .before .before .before .before .before .before .args .n) (c .before .before .before .before .before .before .before .args .start) (c .before .before .before .before .before .before .before .args .size) (warrior (c .before .before .before .before .before .before .before .args .name .now) (c .before .before .before .before .before .before .before .args .body .now) (c .before .before .before .before .before .before .before .args .origin) (c .before .before .before .before .before .before .before .args .place)) (c .before .before .before .before .before .before .before .args .out .now) (c .before .before .before .before .before .before .before .pre) (c .before .if2 .taken))
+returns-2 c =
+    refusing _ (c .refuse2 .ensures)
+    (too-large _ _ _ _ _ _ (c .before .before .before .before .before .before .before .pre) (c .before .if2 .taken))
 
 len-requires : tie.Need-len-requires
 len-requires c κs = search needs
@@ -30,7 +34,9 @@ refuse-requires-3 : tie.Need-refuse-requires-3
 refuse-requires-3 c κs = search needs
 
 returns-3 : tie.Need-returns-3
-returns-3 c = refusing (c .before .before .before .before .before .before .before .before .before .args .out .now) (c .refuse3 .ensures) (too-long (c .before .before .before .before .before .before .before .before .before .args .file .now) (c .before .before .before .before .before .before .before .before .before .args .n) (c .before .before .before .before .before .before .before .before .before .args .start) (c .before .before .before .before .before .before .before .before .before .args .size) (warrior (c .before .before .before .before .before .before .before .before .before .args .name .now) (c .before .before .before .before .before .before .before .before .before .args .body .now) (c .before .before .before .before .before .before .before .before .before .args .origin) (c .before .before .before .before .before .before .before .before .before .args .place)) (c .before .before .before .before .before .before .before .before .before .args .out .now) (c .before .before .before .before .before .before .before .before .before .pre) (c .before .before .before .before .if1 .left) (c .before .before .before .if2 .left) _ (c .before .before .len .ensures) (c .before .if3 .taken))
+returns-3 c =
+    refusing _ (c .refuse3 .ensures)
+    (too-long _ _ _ _ _ _ (c .before .before .before .before .before .before .before .before .before .pre) (c .before .before .before .before .if1 .left) (c .before .before .before .if2 .left) _ (c .before .before .len .ensures) (c .before .if3 .taken))
 
 lowest-fault-requires : tie.Need-lowest-fault-requires
 lowest-fault-requires c κs = search needs
@@ -39,7 +45,9 @@ refuse-requires-4 : tie.Need-refuse-requires-4
 refuse-requires-4 c κs = search needs
 
 returns-4 : tie.Need-returns-4
-returns-4 c = refusing (c .before .before .before .before .before .before .before .before .before .before .before .args .out .now) (c .refuse4 .ensures) (bad-code (c .before .before .before .before .before .before .before .before .before .before .before .args .file .now) (c .before .before .before .before .before .before .before .before .before .before .before .args .n) (c .before .before .before .before .before .before .before .before .before .before .before .args .start) (c .before .before .before .before .before .before .before .before .before .before .before .args .size) (warrior (c .before .before .before .before .before .before .before .before .before .before .before .args .name .now) (c .before .before .before .before .before .before .before .before .before .before .before .args .body .now) (c .before .before .before .before .before .before .before .before .before .before .before .args .origin) (c .before .before .before .before .before .before .before .before .before .before .before .args .place)) (c .before .before .before .before .before .before .before .before .before .before .before .args .out .now) (c .before .before .before .before .before .before .before .before .before .before .before .pre) (c .before .before .before .before .before .before .if1 .left) (c .before .before .before .before .before .if2 .left) _ (c .before .before .before .before .len .ensures) (c .before .before .before .if3 .left) _ (c .before .before .lowest-fault .ensures) (c .before .if4 .taken))
+returns-4 c =
+    refusing _ (c .refuse4 .ensures)
+    (bad-code _ _ _ _ _ _ (c .before .before .before .before .before .before .before .before .before .before .before .pre) (c .before .before .before .before .before .before .if1 .left) (c .before .before .before .before .before .if2 .left) _ (c .before .before .before .before .len .ensures) (c .before .before .before .if3 .left) _ (c .before .before .lowest-fault .ensures) (c .before .if4 .taken))
 
 valid-name-requires : tie.Need-valid-name-requires
 valid-name-requires c κs = search needs
@@ -48,13 +56,17 @@ refuse-requires-5 : tie.Need-refuse-requires-5
 refuse-requires-5 c κs = search needs
 
 returns-5 : tie.Need-returns-5
-returns-5 c = refusing (c .before .before .before .before .before .before .before .before .before .before .before .before .before .args .out .now) (c .refuse5 .ensures) (bad-name (c .before .before .before .before .before .before .before .before .before .before .before .before .before .args .file .now) (c .before .before .before .before .before .before .before .before .before .before .before .before .before .args .n) (c .before .before .before .before .before .before .before .before .before .before .before .before .before .args .start) (c .before .before .before .before .before .before .before .before .before .before .before .before .before .args .size) (warrior (c .before .before .before .before .before .before .before .before .before .before .before .before .before .args .name .now) (c .before .before .before .before .before .before .before .before .before .before .before .before .before .args .body .now) (c .before .before .before .before .before .before .before .before .before .before .before .before .before .args .origin) (c .before .before .before .before .before .before .before .before .before .before .before .before .before .args .place)) (c .before .before .before .before .before .before .before .before .before .before .before .before .before .args .out .now) (c .before .before .before .before .before .before .before .before .before .before .before .before .before .pre) (c .before .before .before .before .before .before .before .before .if1 .left) (c .before .before .before .before .before .before .before .if2 .left) _ (c .before .before .before .before .before .before .len .ensures) (c .before .before .before .before .before .if3 .left) _ (c .before .before .before .before .lowest-fault .ensures) (c .before .before .before .if4 .left) (refuted (c .before .before .valid-name .ensures) (c .before .if5 .taken)))
+returns-5 c =
+    refusing _ (c .refuse5 .ensures)
+    (bad-name _ _ _ _ _ _ (c .before .before .before .before .before .before .before .before .before .before .before .before .before .pre) (c .before .before .before .before .before .before .before .before .if1 .left) (c .before .before .before .before .before .before .before .if2 .left) _ (c .before .before .before .before .before .before .len .ensures) (c .before .before .before .before .before .if3 .left) _ (c .before .before .before .before .lowest-fault .ensures) (c .before .before .before .if4 .left) (refuted (c .before .before .valid-name .ensures) (c .before .if5 .taken)))
 
 refuse-requires-6 : tie.Need-refuse-requires-6
 refuse-requires-6 c κs = search needs
 
 returns-6 : tie.Need-returns-6
-returns-6 c = refusing (c .before .before .before .before .before .before .before .before .before .before .before .before .before .before .args .out .now) (c .refuse6 .ensures) (bad-place (c .before .before .before .before .before .before .before .before .before .before .before .before .before .before .args .file .now) (c .before .before .before .before .before .before .before .before .before .before .before .before .before .before .args .n) (c .before .before .before .before .before .before .before .before .before .before .before .before .before .before .args .start) (c .before .before .before .before .before .before .before .before .before .before .before .before .before .before .args .size) (warrior (c .before .before .before .before .before .before .before .before .before .before .before .before .before .before .args .name .now) (c .before .before .before .before .before .before .before .before .before .before .before .before .before .before .args .body .now) (c .before .before .before .before .before .before .before .before .before .before .before .before .before .before .args .origin) (c .before .before .before .before .before .before .before .before .before .before .before .before .before .before .args .place)) (c .before .before .before .before .before .before .before .before .before .before .before .before .before .before .args .out .now) (c .before .before .before .before .before .before .before .before .before .before .before .before .before .before .pre) (c .before .before .before .before .before .before .before .before .before .if1 .left) (c .before .before .before .before .before .before .before .before .if2 .left) _ (c .before .before .before .before .before .before .before .len .ensures) (c .before .before .before .before .before .before .if3 .left) _ (c .before .before .before .before .before .lowest-fault .ensures) (c .before .before .before .before .if4 .left) (upheld (c .before .before .before .valid-name .ensures) (c .before .before .if5 .left)) (c .before .if6 .taken))
+returns-6 c =
+    refusing _ (c .refuse6 .ensures)
+    (bad-place _ _ _ _ _ _ (c .before .before .before .before .before .before .before .before .before .before .before .before .before .before .pre) (c .before .before .before .before .before .before .before .before .before .if1 .left) (c .before .before .before .before .before .before .before .before .if2 .left) _ (c .before .before .before .before .before .before .before .len .ensures) (c .before .before .before .before .before .before .if3 .left) _ (c .before .before .before .before .before .lowest-fault .ensures) (c .before .before .before .before .if4 .left) (upheld (c .before .before .before .valid-name .ensures) (c .before .before .if5 .left)) (c .before .if6 .taken))
 
 sub-rest : tie.Need-sub-rest
 sub-rest c = omega (arith, lines-start _ _ _ _ (c .before .before .before .before .before .before .before .before .before .before .before .before .before .pre .lines))
@@ -66,33 +78,22 @@ refuse-requires-7 : tie.Need-refuse-requires-7
 refuse-requires-7 c κs = search needs
 
 returns-7 : tie.Need-returns-7
-returns-7 c = refusing (c .before .before .before .before .before .before .before .before .before .before .before .before .before .before .before .before .args .out .now) (c .refuse7 .ensures) (no-room (c .before .before .before .before .before .before .before .before .before .before .before .before .before .before .before .before .args .file .now) (c .before .before .before .before .before .before .before .before .before .before .before .before .before .before .before .before .args .n) (c .before .before .before .before .before .before .before .before .before .before .before .before .before .before .before .before .args .start) (c .before .before .before .before .before .before .before .before .before .before .before .before .before .before .before .before .args .size) (warrior (c .before .before .before .before .before .before .before .before .before .before .before .before .before .before .before .before .args .name .now) (c .before .before .before .before .before .before .before .before .before .before .before .before .before .before .before .before .args .body .now) (c .before .before .before .before .before .before .before .before .before .before .before .before .before .before .before .before .args .origin) (c .before .before .before .before .before .before .before .before .before .before .before .before .before .before .before .before .args .place)) (c .before .before .before .before .before .before .before .before .before .before .before .before .before .before .before .before .args .out .now) (c .before .before .before .before .before .before .before .before .before .before .before .before .before .before .before .before .pre) (c .before .before .before .before .before .before .before .before .before .before .before .if1 .left) (c .before .before .before .before .before .before .before .before .before .before .if2 .left) _ (c .before .before .before .before .before .before .before .before .before .len .ensures) (c .before .before .before .before .before .before .before .before .if3 .left) _ (c .before .before .before .before .before .before .before .lowest-fault .ensures) (c .before .before .before .before .before .before .if4 .left) (upheld (c .before .before .before .before .before .valid-name .ensures) (c .before .before .before .before .if5 .left)) (c .before .before .before .if6 .left) (refuted (c .before .before .has-room .ensures) (c .before .if7 .taken)))
+returns-7 c =
+    refusing _ (c .refuse7 .ensures)
+    (no-room _ _ _ _ _ _ (c .before .before .before .before .before .before .before .before .before .before .before .before .before .before .before .before .pre) (c .before .before .before .before .before .before .before .before .before .before .before .if1 .left) (c .before .before .before .before .before .before .before .before .before .before .if2 .left) _ (c .before .before .before .before .before .before .before .before .before .len .ensures) (c .before .before .before .before .before .before .before .before .if3 .left) _ (c .before .before .before .before .before .before .before .lowest-fault .ensures) (c .before .before .before .before .before .before .if4 .left) (upheld (c .before .before .before .before .before .valid-name .ensures) (c .before .before .before .before .if5 .left)) (c .before .before .before .if6 .left) (refuted (c .before .before .has-room .ensures) (c .before .if7 .taken)))
 
 store-file-requires : tie.Need-store-file-requires
 store-file-requires c κs =
-    let r = room-for (c .before .before .before .before .before .before .before .before .before .before .before .before .before .before .before .before .args .n) (length (c .before .before .before .before .before .before .before .before .before .before .before .before .before .before .before .before .args .file .now) - c .before .before .before .before .before .before .before .before .before .before .before .before .before .before .before .before .args .start) (length (c .before .before .before .before .before .before .before .before .before .before .before .before .before .before .before .before .args .body .now)) (length (c .before .before .before .before .before .before .before .before .before .before .before .before .before .before .before .before .args .out .now)) (upheld (c .before .before .has-room .ensures) (c .before .if7 .left)) in
-    (omega (arith, r .0), c .before .before .before .before .before .before .before .before .before .before .before .before .before .before .before .before .pre, short (c .before .before .before .before .before .before .before .before .before .before .before .before .before .before .before .before .args .file .now) (c .before .before .before .before .before .before .before .before .before .before .before .before .before .before .before .before .args .n) (c .before .before .before .before .before .before .before .before .before .before .before .before .before .before .before .before .args .start) (c .before .before .before .before .before .before .before .before .before .before .before .before .before .before .before .before .args .size) (warrior (c .before .before .before .before .before .before .before .before .before .before .before .before .before .before .before .before .args .name .now) (c .before .before .before .before .before .before .before .before .before .before .before .before .before .before .before .before .args .body .now) (c .before .before .before .before .before .before .before .before .before .before .before .before .before .before .before .before .args .origin) (c .before .before .before .before .before .before .before .before .before .before .before .before .before .before .before .before .args .place)) (c .before .before .before .before .before .before .before .before .before .before .before .before .before .before .before .before .args .out .now) (c .before .before .before .before .before .before .before .before .before .before .before .before .before .before .before .before .pre) (c .before .before .before .before .before .before .before .before .before .before .before .if1 .left) (c .before .before .before .before .before .before .before .before .before .before .if2 .left) _ (c .before .before .before .before .before .before .before .before .before .len .ensures) (c .before .before .before .before .before .before .before .before .if3 .left) _ (c .before .before .before .before .before .before .before .lowest-fault .ensures) (c .before .before .before .before .before .before .if4 .left) (upheld (c .before .before .before .before .before .valid-name .ensures) (c .before .before .before .before .if5 .left)), r .1)
-
-add-t16 : tie.Need-add-t16
-add-t16 c = let r = room-for (c .before .before .before .before .before .before .before .before .before .before .before .before .before .before .before .before .before .before .before .args .n) (length (c .before .before .before .before .before .before .before .before .before .before .before .before .before .before .before .before .before .before .before .args .file .now) - c .before .before .before .before .before .before .before .before .before .before .before .before .before .before .before .before .before .before .before .args .start) (length (c .before .before .before .before .before .before .before .before .before .before .before .before .before .before .before .before .before .before .before .args .body .now)) (length (c .before .before .before .before .before .before .before .before .before .before .before .before .before .before .before .before .before .before .before .args .out .now)) (upheld (c .before .before .before .before .before .has-room .ensures) (c .before .before .before .before .if7 .left)) in omega (arith, r .0, r .1)
-
-mul-t22 : tie.Need-mul-t22
-mul-t22 c = let r = room-for (c .before .before .before .before .before .before .before .before .before .before .before .before .before .before .before .before .before .before .before .args .n) (length (c .before .before .before .before .before .before .before .before .before .before .before .before .before .before .before .before .before .before .before .args .file .now) - c .before .before .before .before .before .before .before .before .before .before .before .before .before .before .before .before .before .before .before .args .start) (length (c .before .before .before .before .before .before .before .before .before .before .before .before .before .before .before .before .before .before .before .args .body .now)) (length (c .before .before .before .before .before .before .before .before .before .before .before .before .before .before .before .before .before .before .before .args .out .now)) (upheld (c .before .before .before .before .before .has-room .ensures) (c .before .before .before .before .if7 .left)) in omega (arith, r .0, r .1)
-
-add-t28 : tie.Need-add-t28
-add-t28 c = let r = room-for (c .before .before .before .before .before .before .before .before .before .before .before .before .before .before .before .before .before .before .before .args .n) (length (c .before .before .before .before .before .before .before .before .before .before .before .before .before .before .before .before .before .before .before .args .file .now) - c .before .before .before .before .before .before .before .before .before .before .before .before .before .before .before .before .before .before .before .args .start) (length (c .before .before .before .before .before .before .before .before .before .before .before .before .before .before .before .before .before .before .before .args .body .now)) (length (c .before .before .before .before .before .before .before .before .before .before .before .before .before .before .before .before .before .before .before .args .out .now)) (upheld (c .before .before .before .before .before .has-room .ensures) (c .before .before .before .before .if7 .left)) in omega (arith, r .0, r .1)
-
-add-t29 : tie.Need-add-t29
-add-t29 c = let r = room-for (c .before .before .before .before .before .before .before .before .before .before .before .before .before .before .before .before .before .before .before .args .n) (length (c .before .before .before .before .before .before .before .before .before .before .before .before .before .before .before .before .before .before .before .args .file .now) - c .before .before .before .before .before .before .before .before .before .before .before .before .before .before .before .before .before .before .before .args .start) (length (c .before .before .before .before .before .before .before .before .before .before .before .before .before .before .before .before .before .before .before .args .body .now)) (length (c .before .before .before .before .before .before .before .before .before .before .before .before .before .before .before .before .before .before .before .args .out .now)) (upheld (c .before .before .before .before .before .has-room .ensures) (c .before .before .before .before .if7 .left)) in omega (arith, r .0, r .1)
-
-add-t31 : tie.Need-add-t31
-add-t31 c = let r = room-for (c .before .before .before .before .before .before .before .before .before .before .before .before .before .before .before .before .before .before .before .args .n) (length (c .before .before .before .before .before .before .before .before .before .before .before .before .before .before .before .before .before .before .before .args .file .now) - c .before .before .before .before .before .before .before .before .before .before .before .before .before .before .before .before .before .before .before .args .start) (length (c .before .before .before .before .before .before .before .before .before .before .before .before .before .before .before .before .before .before .before .args .body .now)) (length (c .before .before .before .before .before .before .before .before .before .before .before .before .before .before .before .before .before .before .before .args .out .now)) (upheld (c .before .before .before .before .before .has-room .ensures) (c .before .before .before .before .if7 .left)) in omega (arith, r .0, r .1)
+    let s = c .before .before .before .before .before .before .before .before .before .before .before .before .before .before .before .before in
+    let a = s .args in
+    let r = room-for (a .n) (length (a .file .now) - a .start) (length (a .body .now)) (length (a .out .now)) (upheld (c .before .before .has-room .ensures) (c .before .if7 .left)) in
+    (omega (arith, r .0), s .pre, valid-name (a .name .now) (upheld (c .before .before .before .before .before .valid-name .ensures) (c .before .before .before .before .if5 .left)) .0, r .1)
 
 same-length : tie.Need-same-length
 same-length c = search needs
 
 returns-8 : tie.Need-returns-8
-returns-8 c = written (c .before .before .before .before .before .before .before .before .before .before .before .before .before .before .before .before .before .before .before .args .file .now) (c .before .before .before .before .before .before .before .before .before .before .before .before .before .before .before .before .before .before .before .args .n) (c .before .before .before .before .before .before .before .before .before .before .before .before .before .before .before .before .before .before .before .args .start) (c .before .before .before .before .before .before .before .before .before .before .before .before .before .before .before .before .before .before .before .args .size) (warrior (c .before .before .before .before .before .before .before .before .before .before .before .before .before .before .before .before .before .before .before .args .name .now) (c .before .before .before .before .before .before .before .before .before .before .before .before .before .before .before .before .before .before .before .args .body .now) (c .before .before .before .before .before .before .before .before .before .before .before .before .before .before .before .before .before .before .before .args .origin) (c .before .before .before .before .before .before .before .before .before .before .before .before .before .before .before .before .before .before .before .args .place)) (c .before .before .before .before .before .before .before .before .before .before .before .before .before .before .before .before .before .before .before .args .out .now) (c .before .before .before .before .before .before .before .before .before .before .before .before .before .before .before .before .before .before .before .pre) (c .before .before .before .before .before .before .before .before .before .before .before .before .before .before .if1 .left) (c .before .before .before .before .before .before .before .before .before .before .before .before .before .if2 .left) _ (c .before .before .before .before .before .before .before .before .before .before .before .before .len .ensures) (c .before .before .before .before .before .before .before .before .before .before .before .if3 .left) _ (c .before .before .before .before .before .before .before .before .before .before .lowest-fault .ensures) (c .before .before .before .before .before .before .before .before .before .if4 .left) (upheld (c .before .before .before .before .before .before .before .before .valid-name .ensures) (c .before .before .before .before .before .before .before .if5 .left)) (c .before .before .before .before .before .before .if6 .left) (upheld (c .before .before .before .before .before .has-room .ensures) (c .before .before .before .before .if7 .left)) (c .before .before .store-file .ensures)
+returns-8 c = written _ _ _ _ _ _ (c .before .before .before .before .before .before .before .before .before .before .before .before .before .before .before .before .before .before .before .pre) (c .before .before .before .before .before .before .before .before .before .before .before .before .before .before .if1 .left) (c .before .before .before .before .before .before .before .before .before .before .before .before .before .if2 .left) _ (c .before .before .before .before .before .before .before .before .before .before .before .before .len .ensures) (c .before .before .before .before .before .before .before .before .before .before .before .if3 .left) _ (c .before .before .before .before .before .before .before .before .before .before .lowest-fault .ensures) (c .before .before .before .before .before .before .before .before .before .if4 .left) (upheld (c .before .before .before .before .before .before .before .before .valid-name .ensures) (c .before .before .before .before .before .before .before .if5 .left)) (c .before .before .before .before .before .before .if6 .left) (upheld (c .before .before .before .before .before .has-room .ensures) (c .before .before .before .before .if7 .left)) (c .before .before .store-file .ensures .0) (c .before .before .store-file .ensures .1)
 
 pub write-spec : {M : Type 1} → statement M
 write-spec =
@@ -118,10 +119,5 @@ write-spec =
     refuse-requires-7
     returns-7
     store-file-requires
-    add-t16
-    mul-t22
-    add-t28
-    add-t29
-    add-t31
     same-length
     returns-8)

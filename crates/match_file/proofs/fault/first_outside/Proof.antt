@@ -1,11 +1,11 @@
 -- `match_file::fault::first_outside` meets its contract. The invariant: the first fault is that of the bytes left.
 -- Assumes nothing.
 use borrow.Author.Needs.{needs}
-use borrow.Author.Tests.{le-leb, lt-leb}
 use native.Mathlib.Omega.{arith}
 use mathlib.Core.Path.{_≡_, refl, sym, _∙_}
 use Prim.Native.Nat.{_-_, _≤_}
 use Rattle.laws.proofs.Lists.{done}
+use Rattle.laws.proofs.Tests.{refuted, upheld}
 use Rattle.program.specs.Bytes.{part}
 use Rattle.match_file.specs.Faults.{faulty, within}
 use Rattle.match_file.proofs.Chains.{faulty-first}
@@ -19,22 +19,19 @@ abbrev μ-loop : tie.MeasureT-loop
 μ-loop file from end lo hi i₀ i = end - i
 
 loop-holds : tie.Need-loop-holds Inv-loop μ-loop
-loop-holds c = (c .pre .0, refl)
+loop-holds c = (c .before .pre .0, refl)
 
-shared-slice-read-b : tie.Need-shared-slice-read-b Inv-loop μ-loop
-shared-slice-read-b c = search needs
+shared-slice-read-is-within : tie.Need-shared-slice-read-is-within Inv-loop μ-loop
+shared-slice-read-is-within c = search needs
+
+is-within-requires : tie.Need-is-within-requires Inv-loop μ-loop
+is-within-requires c κs = search needs
 
 returns : tie.Need-returns Inv-loop μ-loop
 returns c =
-    let a = c .before .before .before .before in
-    let l = c .before .before .before .loop in
-    sym (l .inv .1 ∙ faulty-first _ (a .args .file .now) (l .i) (a .args .end) (c .before .before .loop-test .taken) (a .pre .1) ∙ simp (lt-leb _ _ (c .if1 .taken)))
-
-returns-2 : tie.Need-returns-2 Inv-loop μ-loop
-returns-2 c =
-    let a = c .before .before .before .before .before in
+    let s = c .before .before .before .before .before .before in
     let l = c .before .before .before .before .loop in
-    sym (l .inv .1 ∙ faulty-first _ (a .args .file .now) (l .i) (a .args .end) (c .before .before .before .loop-test .taken) (a .pre .1) ∙ simp (le-leb _ _ (c .before .if1 .left), lt-leb _ _ (c .if2 .taken)))
+    sym (l .inv .1 ∙ faulty-first _ (s .args .file .now) (l .i) (s .args .end) (c .before .before .before .loop-test .taken) (s .pre .1) ∙ rw (refuted (c .before .is-within .ensures) (c .if1 .taken)))
 
 add-i : tie.Need-add-i Inv-loop μ-loop
 add-i c = search needs
@@ -44,16 +41,12 @@ loop-less c = search needs
 
 loop-again : tie.Need-loop-again Inv-loop μ-loop
 loop-again c =
-    let a = c .before .before .before .before .before in
+    let s = c .before .before .before .before .before .before in
     let l = c .before .before .before .before .loop in
-    let t = c .before .before .before .loop-test .taken in
-    (omega arith, l .inv .1 ∙ faulty-first _ (a .args .file .now) (l .i) (a .args .end) t (a .pre .1) ∙ simp (le-leb _ _ (c .before .if1 .left), le-leb _ _ (c .if2 .left)))
+    (omega arith, l .inv .1 ∙ faulty-first _ (s .args .file .now) (l .i) (s .args .end) (c .before .before .before .loop-test .taken) (s .pre .1) ∙ rw (upheld (c .before .is-within .ensures) (c .if1 .left)))
 
-returns-3 : tie.Need-returns-3 Inv-loop μ-loop
-returns-3 c =
-    let a = c .before .before .args in
-    let l = c .before .loop in
-    sym (l .inv .1 ∙ rw (done (a .end) (l .i) (c .loop-test .left)))
+returns-2 : tie.Need-returns-2 Inv-loop μ-loop
+returns-2 c = sym (c .before .loop .inv .1 ∙ rw (done (c .before .before .before .args .end) (c .before .loop .i) (c .loop-test .left)))
 
 pub first-outside-spec : {M : Type 1} → statement M
 first-outside-spec =
@@ -62,10 +55,10 @@ first-outside-spec =
     Inv-loop
     μ-loop
     loop-holds
-    shared-slice-read-b
+    shared-slice-read-is-within
+    is-within-requires
     returns
-    returns-2
     add-i
     loop-less
     loop-again
-    returns-3)
+    returns-2)

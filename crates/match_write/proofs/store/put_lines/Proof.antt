@@ -43,8 +43,10 @@ add-put-line c = search needs
 
 put-line-requires : tie.Need-put-line-requires Inv-loop μ-loop
 put-line-requires c κs =
-    let e = c .before .before .before .before .before .before .before .before .pre .1 .numbers (c .before .before .before .before .before .loop .i) (c .before .before .before .before .loop-test .taken) in
-    (its-short (c .before .before .before .before .before .before .before .before .args .file .now) (c .before .before .before .before .before .loop .i) e (c .before .before .name .ensures), omega arith)
+    let s = c .before .before .before .before .before .before .before .before in
+    let l = c .before .before .before .before .before .loop in
+    let e = s .pre .1 .numbers (l .i) (c .before .before .before .before .loop-test .taken) in
+    (its-short (s .args .file .now) (l .i) e (c .before .before .name .ensures), omega arith)
 
 mul-to : tie.Need-mul-to Inv-loop μ-loop
 mul-to c = search needs
@@ -60,14 +62,17 @@ loop-less c = search needs
 
 loop-again : tie.Need-loop-again Inv-loop μ-loop
 loop-again c =
-    let e = c .before .before .before .before .before .before .before .before .before .before .before .pre .1 .numbers (c .before .before .before .before .before .before .before .before .loop .i) (c .before .before .before .before .before .before .before .loop-test .taken) in (
+    let s = c .before .before .before .before .before .before .before .before .before .before .before in
+    let l = c .before .before .before .before .before .before .before .before .loop in
+    let t = c .before .before .before .before .before .before .before .loop-test .taken in
+    let r = c .before .before .before .before .before .before .read-line .ensures in
+    let e = s .pre .1 .numbers (l .i) t in (
       omega arith,
-      c .before .out .given ∙ c .before .before .before .before .before .before .before .before .loop .inv .1,
+      c .before .out .given ∙ l .inv .1,
       omega arith,
-      c .before .before .before .before .before .before .before .before .loop .inv .3 ∙ start-turn (c .before .before .before .before .before .before .before .before .before .before .before .args .file .now) (c .before .before .before .before .before .before .before .before .loop .i) e (c .before .before .before .before .before .before .before .before .loop .to) (c .before .before .before .before .before .before .before .before .before .before .before .args .n) _ (c .before .before .before .before .before .before .before .loop-test .taken) (c .before .before .before .before .before .before .read-line .ensures .1),
-      c .before .before .before .before .before .before .before .before .loop .inv .4
-      ∙ lines-turn (c .before .before .before .before .before .before .before .before .before .before .before .args .file .now) (c .before .before .before .before .before .before .before .before .loop .i) e (c .before .before .before .before .before .before .before .before .loop .out) _ _ (c .before .before .before .before .before .before .before .before .loop .to) (c .before .before .before .before .before .before .before .before .before .before .before .args .n) _ _ _ (c .before .before .before .before .before .before .before .loop-test .taken)
-      (c .before .before .before .before .before .name .ensures) (c .before .before .before .before .before .before .read-line .ensures .1) (c .before .before .before .before .before .before .read-line .ensures .2) (c .before .before .before .before .before .before .read-line .ensures .3) (c .before .before .put-line .ensures),
+      l .inv .3 ∙ start-turn (s .args .file .now) (l .i) e (l .to) (s .args .n) _ t (r .1),
+      l .inv .4
+          ∙ lines-turn (s .args .file .now) (l .i) e (l .out) _ _ (l .to) (s .args .n) _ _ _ t (c .before .before .before .before .before .name .ensures) (r .1) (r .2) (r .3) (c .before .before .put-line .ensures),
     )
 
 same-length : tie.Need-same-length Inv-loop μ-loop
@@ -75,8 +80,9 @@ same-length c = c .before .loop .inv .1
 
 returns : tie.Need-returns Inv-loop μ-loop
 returns c =
-    let d = done (c .before .before .before .before .args .n) (c .before .loop .i) (c .loop-test .left) in
-    (sym (c .before .loop .inv .3 ∙ rw (d, add-zero)), sym (c .before .loop .inv .4 ∙ rw d))
+    let l = c .before .loop in
+    let d = done (c .before .before .before .before .args .n) (l .i) (c .loop-test .left) in
+    (sym (l .inv .3 ∙ rw (d, add-zero)), sym (l .inv .4 ∙ rw d))
 
 pub put-lines-spec : {M : Type 1} → statement M
 put-lines-spec =
