@@ -38,10 +38,14 @@ module _ (name : List ℕ) (i : ℕ) (f : From name i) where
   pub over : length name ≤ i → true ≡ validName name
   over h = sym (is ∙ ap (every validByte) (drop-of-length-le name h))
 
+-- a valid name: its length, and its bytes
+pub valid-name : (name : List ℕ) → validName name ≡ true → (length name ≤ 32) × (every validByte name ≡ true)
+valid-name name e = let p = both (leb (length name) 32) (every validByte name) e in (leb-true (length name) 32 (p .0), p .1)
+
 -- what a warrior is called has 1 to 32 bytes, all valid, where its name is valid
 pub called-valid : (name : List ℕ) → validName name ≡ true
     → (length (called name) ≤ 32) × (1 ≤ length (called name)) × (every validByte (called name) ≡ true)
 called-valid [] e = (omega arith, omega arith, refl)
 called-valid (b ∷ bs) e =
-    let p = both (leb (length (b ∷ bs)) 32) (every validByte (b ∷ bs)) e in
-    (leb-true _ _ (p .0), omega arith, p .1)
+    let p = valid-name (b ∷ bs) e in
+    (p .0, omega arith, p .1)

@@ -1,4 +1,4 @@
--- Laws of a body: it becomes no more words than it has instructions, and they are sound where no instruction is faulty.
+-- Laws of a body: it becomes no more words than it has instructions; where no instruction is faulty, they are sound, and it is whole.
 -- Assumes nothing.
 use Prim.Native.Nat.{ℕ, zero, suc, _+_, _-_, _*_, _/_, _≤_, _<_}
 use native.Mathlib.Nat.{sub-zero, le-of-suc-le-suc, not-suc-le-zero}
@@ -7,9 +7,9 @@ use mathlib.Core.Bool.{true, false, not}
 use mathlib.Core.List.{List, [], _∷_, map}
 use native.Mathlib.Omega.{arith}
 use lib.Dec.{eqb, leb, ltb}
-use lib.ListN.{length, drop, length-drop, length-map}
+use lib.ListN.{length, take, drop, length-append, length-drop, length-map, take-append-drop}
 use lib.Seq.{drop-drop}
-use borrow.Author.Tests.{leb-true, ltb-false, not-false}
+use borrow.Author.Tests.{eqb-true, leb-true, ltb-false, not-false}
 use Rattle.laws.proofs.Tests.{holds}
 use Rattle.laws.proofs.Every.{Every}
 use Rattle.laws.proofs.Lowest.{lowest-none}
@@ -61,6 +61,27 @@ fewer P zero n body l e = tt
 fewer P (suc k) zero body l e = absurd (not-suc-le-zero l)
 fewer P (suc k) (suc n) body l e = (e .0, fewer P k n (drop 12 body) (le-of-suc-le-suc l) (e .1))
 
+all-lawful : (body : List ℕ) → ltb (lowestFault body) (instructions body) ≡ false → Every (λ x. not (lawful x) ≡ false) (split (instructions body) body)
+unfolding lowestFault
+all-lawful body e =
+    lowest-none (λ x. not (lawful x)) (split (instructions body) body) (rw (length-split (instructions body) body) (ltb-false _ _ e))
+
+-- instructions that are lawful are whole, and so is their body
+twelve-each : (n : ℕ) (body : List ℕ) → Every (λ x. not (lawful x) ≡ false) (split n body) → 12 * n ≤ length body
+unfolding lawful
+twelve-each zero body e = omega arith
+twelve-each (suc n) body e =
+    let x : List ℕ = take 12 body in
+    let h = holds
+    (eqb (length x) 12 ∷ leb (opcodeOf x) STP ∷ leb (modifierOf x) I ∷ leb (aModeOf x) PostIncIndirectB ∷ leb (bModeOf x) PostIncIndirectB ∷ []) (not-false _ (e .0)) in
+    let l : length x ≡ 12 = eqb-true (length x) 12 (h .0) in
+    let r : 12 * n ≤ length (drop 12 body) = twelve-each n (drop 12 body) (e .1) in
+    let a : length x + length (drop 12 body) ≡ length body = sym (length-append x (drop 12 body)) ∙ ap length (take-append-drop 12 body) in
+    omega arith
+
+pub lawful-whole : (body : List ℕ) → ltb (lowestFault body) (instructions body) ≡ false → length body ≡ 12 * instructions body
+lawful-whole body e = let l : 12 * instructions body ≤ length body = twelve-each (instructions body) body (all-lawful body e) in omega arith
+
 module _ (size : ℕ) (positive : 0 < size) (small : size ≤ 65536) where
   lawful-sound : (x : List ℕ) → lawful x ≡ true → soundWord size (packed (cellOf size x)) ≡ true
   unfolding lawful
@@ -82,8 +103,7 @@ module _ (size : ℕ) (positive : 0 < size) (small : size ≤ 65536) where
   words-sound (x ∷ xs) e = (lawful-sound x (not-false _ (e .0)), words-sound xs (e .1))
 
   pub cells-sound : (body : List ℕ) → ltb (lowestFault body) (instructions body) ≡ false → Every (λ w. soundWord size w ≡ true) (cells size body)
-  unfolding cells lowestFault
+  unfolding cells
   cells-sound body e =
       words-sound (split (length body / 12) body)
-      (fewer (λ x. not (lawful x) ≡ false) (length body / 12) (instructions body) body (omega arith)
-      (lowest-none (λ x. not (lawful x)) (split (instructions body) body) (rw (length-split (instructions body) body) (ltb-false _ _ e))))
+      (fewer (λ x. not (lawful x) ≡ false) (length body / 12) (instructions body) body (omega arith) (all-lawful body e))

@@ -1,0 +1,4 @@
+pub mod Stores
+pub mod Lines
+pub mod Checks
+pub mod Added
