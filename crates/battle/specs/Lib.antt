@@ -1,0 +1,3 @@
+pub mod Match
+pub mod Text
+pub mod Games

@@ -1,0 +1,59 @@
+-- What comes of a match file that is played (01, 'Match file', `play`).
+-- Assumes nothing.
+use Prim.Native.Nat.{ℕ, zero, suc, _+_}
+use mathlib.Core.Bool.{cond}
+use mathlib.Core.List.{List}
+use lib.Dec.{eqb, ltb}
+use lib.ListN.{length, replicate}
+use Rattle.answer.specs.Numbers.{Told, gives}
+use Rattle.machine.specs.declared.Header.{Header}
+use Rattle.machine.specs.declared.Ceiling.the-variants.{Unsaid}
+use Rattle.machine.specs.State.{Machine, Outcome, toldBy}
+use Rattle.machine.specs.Load.{fresh, load}
+use Rattle.machine.specs.Run.{run}
+use Rattle.match_file.specs.declared.fault.Fault.{Fault}
+use Rattle.match_file.specs.declared.fault.Fault.the-variants.{Nowhere, At}
+use Rattle.match_file.specs.Faults.{fault}
+use Rattle.match_file.specs.Reading.{warriorsIn, sizeIn, warriorOf}
+
+-- the answer to a list of loads, and the machine that they leave
+pub record Loads : Type 0 where
+  pub told : Told
+  pub machine : Machine
+
+-- the load of warrior k of a file
+abbrev pub loadOf : List ℕ → ℕ → Machine → Outcome
+loadOf f k m = let w = warriorOf f k in load m (w .name) (w .body) (w .origin) (w .place)
+
+-- loads all, in file order: the n warriors of a file from warrior k on, up to the first refused
+abbrev pub loads : List ℕ → ℕ → ℕ → Machine → Loads
+loads f k zero m = record { told = gives 0 0; machine = m }
+loads f k (suc n) m =
+    let o = loadOf f k m in
+    cond (eqb (o .number) 0) (loads f (k + 1) n (o .machine)) (record { told = toldBy o; machine = o .machine })
+
+-- refused earlier, with the answer; or played: answer, steps and writes of the run, and the header that it left
+pub data Result : Type 0 where
+  refused : Told → Result
+  played : ℕ → ℕ → ℕ → Header → Result
+
+-- runs with no ceiling given
+abbrev pub ran : Outcome → Result
+ran o = played (o .number) (o .steps) (o .writes) (o .machine .header)
+
+abbrev pub afterLoads : Loads → Result
+afterLoads l = cond (eqb (l .told .number) 0) (ran (run Unsaid (l .machine))) (refused (l .told))
+
+-- M cells of core memory and 2,000 queue entries
+abbrev pub afterFresh : List ℕ → Outcome → Result
+afterFresh f o = cond (eqb (o .number) 0) (afterLoads (loads f 0 (warriorsIn f) (o .machine))) (refused (toldBy o))
+
+-- M to 8,000, else 1
+abbrev pub afterReading : List ℕ → Fault → Result
+afterReading f (At p) = refused (gives 13 p)
+afterReading f Nowhere =
+    cond (ltb 8000 (sizeIn f)) (refused (gives 1 0)) (afterFresh f (fresh (sizeIn f) (replicate (sizeIn f) 0) (replicate 2000 0)))
+
+-- at most 32,768 bytes, else 13 at 32,768
+unfoldable pub result : List ℕ → Result
+result f = cond (ltb 32768 (length f)) (refused (gives 13 32768)) (afterReading f (fault f))

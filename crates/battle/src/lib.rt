@@ -1,0 +1,1 @@
+// Plays a match file (01, 'Match file', `play`), all but reading it and printing.
