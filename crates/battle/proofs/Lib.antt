@@ -1,1 +1,4 @@
+pub mod Digits
+pub mod Puts
+pub mod Lines
 pub mod Games

@@ -16,7 +16,7 @@ use Rattle.machine.specs.Load.{fresh, loaded, load}
 use Rattle.match_file.specs.Format.{warrior, line, file}
 use Rattle.match_file.specs.Faults.{lineFault, linesFault, fault}
 use Rattle.battle.specs.Match.{result}
-use Rattle.battle.specs.Text.{decimal, nameLine, printed}
+use Rattle.battle.specs.Text.{decimal, lineOf, printed}
 
 pub record Row : Type 0 where
   pub got : List ℕ
@@ -27,7 +27,7 @@ abbrev alone : ℕ → ℕ → ℕ → List ℕ
 alone size opcode place = file size (warrior [] (opcode ∷ 4 ∷ 1 ∷ 1 ∷ replicate 8 0) 0 place ∷ [])
 
 unfoldable pub games : List Row
-unfolding soundWord lawful lowestFault cells register numbered pop push started soundHeader soundEntry fresh loaded load operand effectOf effect coreAfter stepWrites counted executed step run line file lineFault linesFault fault result decimal nameLine printed
+unfolding soundWord lawful lowestFault cells register numbered pop push started soundHeader soundEntry fresh loaded load operand effectOf effect coreAfter stepWrites counted executed step run line file lineFault linesFault fault result decimal lineOf printed
 games =
     -- M 8 and one unnamed DAT.F $0,$0: `11 1 0`, then `Warrior0 0`
     record {

@@ -1,3 +1,4 @@
 pub mod Match
 pub mod Text
+pub mod Given
 pub mod Games

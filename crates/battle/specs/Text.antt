@@ -19,13 +19,14 @@ digits (suc k) n = cond (ltb n 10) ((48 + n) ∷ []) (digits k (n / 10) ++ ((48 
 unfoldable pub decimal : ℕ → List ℕ
 decimal n = digits 20 n
 
--- name and count for each name in order of first load: of the n names from slot i on
-unfoldable pub nameLine : Header → ℕ → List ℕ
-nameLine h i = nameAt h i ++ (32 ∷ (decimal (getD (h .counts) i 0) ++ (10 ∷ [])))
+-- a name and its count
+unfoldable pub lineOf : List ℕ → ℕ → List ℕ
+lineOf name count = name ++ (32 ∷ (decimal count ++ (10 ∷ [])))
 
+-- name and count for each name in order of first load: of the n names from slot i on
 abbrev pub nameLines : Header → ℕ → ℕ → List ℕ
 nameLines h i zero = []
-nameLines h i (suc n) = nameLine h i ++ nameLines h (i + 1) n
+nameLines h i (suc n) = lineOf (nameAt h i) (getD (h .counts) i 0) ++ nameLines h (i + 1) n
 
 -- refused earlier: one line, the number, and for 13 its position
 abbrev pub position : Told → List ℕ

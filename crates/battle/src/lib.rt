@@ -1,1 +1,3 @@
 // Plays a match file (01, 'Match file', `play`), all but reading it and printing.
+
+mod text;

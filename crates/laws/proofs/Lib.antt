@@ -10,3 +10,4 @@ pub mod Every
 pub mod Tally
 pub mod Lowest
 pub mod Same
+pub mod Stores
