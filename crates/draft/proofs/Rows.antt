@@ -8,17 +8,16 @@ use mathlib.Core.Option.{some}
 use lib.ListN.{length, getD, set}
 use lib.Seq.{getD-set-same, set-set}
 use Rattle.laws.specs.Lists.{every}
+use Rattle.laws.proofs.Numbers.{below}
 use Rattle.laws.proofs.Every.{_and_}
 use Rattle.load_file.specs.declared.Cell.{Cell}
 use Rattle.load_file.specs.Offset.{ahead}
 use Rattle.load_file.specs.Types.{Field, A, B, pairs}
 use Rattle.load_file.specs.Cells.{number, withNumber}
-use Rattle.load_file.proofs.Words.{InRange}
+use Rattle.load_file.proofs.Words.{InRange, with-range}
 use Rattle.machine.specs.Execution.{Met, goes, stored, computes}
 use Rattle.draft.specs.Evaluation.{at, assign}
 use Rattle.draft.specs.Draft.{modifiers, I, compute, test}
-use Rattle.draft.proofs.Numbers.{below}
-use Rattle.draft.proofs.Cores.{with-range}
 
 -- a, b and the target of each pair
 abbrev pub row : ℕ → Cell → Cell → List Met

@@ -8,6 +8,7 @@ use lib.ListN.{getD}
 use borrow.Author.Tests.{eqb-true, eq-eqb}
 use Rattle.laws.specs.Lists.{every}
 use Rattle.laws.proofs.Tests.{both}
+use Rattle.laws.proofs.Numbers.{below}
 use Rattle.laws.proofs.Every.{_and_}
 use Rattle.load_file.specs.declared.Cell.{Cell}
 use Rattle.load_file.specs.Opcode.{CMP, SEQ}
@@ -17,7 +18,6 @@ use Rattle.load_file.proofs.Words.{InRange, cell-ext, unpack-pack}
 use Rattle.machine.specs.Execution.{equal}
 use Rattle.draft.specs.Draft.{modifiers, I, test, under, oneCode, sameInstruction}
 use Rattle.draft.specs.Departures.{twins}
-use Rattle.draft.proofs.Numbers.{below}
 use Rattle.draft.proofs.Rows.{row, row-test}
 
 iff : (x y : Bool) → (x ≡ true → y ≡ true) → (y ≡ true → x ≡ true) → x ≡ y

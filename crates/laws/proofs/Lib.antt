@@ -3,6 +3,7 @@ pub mod Signed
 pub mod Modulo
 pub mod Tables
 pub mod Cases
+pub mod Numbers
 pub mod Tests
 pub mod Lists
 pub mod Loops

@@ -1,0 +1,4 @@
+pub mod Offsets
+pub mod Cells
+pub mod Pointers
+pub mod Operands

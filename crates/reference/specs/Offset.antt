@@ -2,11 +2,12 @@
 -- Assumes nothing.
 -- A number of 32 bits is an integer. A sum or a difference that leaves them wraps round, as in a build without overflow checks;
 -- it needs a core of more than 2 ^ 30 cells. A product that leaves them panics, as in a build with them (Opcodes); it needs more than 46,341.
-use Prim.Native.Nat.{ℕ, _-_, _/_, _%_, _^_}
-use mathlib.Core.Bool.{Bool, cond, _||_}
-use lib.Dec.{eqb, leb, ltb}
-use lib.IntN.{ℤ, pos, negsuc, _+ℤ_, _-ℤ_}
+use Prim.Native.Nat.{ℕ, _/_, _%_, _^_}
+use mathlib.Core.Bool.{Bool, _||_}
+use lib.Dec.{eqb, leb}
+use lib.IntN.{ℤ, pos, _+ℤ_, _-ℤ_}
 use Rattle.load_file.specs.Offset.{euclid}
+use Rattle.program.specs.Bytes.{signed}
 
 -- new and set_value: the Euclidean remainder by core_size
 abbrev pub offset : ℕ → ℤ → ℕ
@@ -16,9 +17,9 @@ offset m value = euclid value m
 abbrev pub no-offset : ℕ → Bool
 no-offset m = eqb m 0 || leb (2 ^ 31) m
 
--- an integer of 32 bits, two's complement
+-- an integer wrapped round to 32 bits
 abbrev pub i32 : ℤ → ℤ
-i32 z = let u = euclid z (2 ^ 32) in cond (ltb u (2 ^ 31)) (pos u) (negsuc (2 ^ 32 - 1 - u))
+i32 z = signed (euclid z (2 ^ 32))
 
 -- the operators of two offsets: that of i32, then set_value
 abbrev pub add : ℕ → ℕ → ℕ → ℕ
