@@ -2,3 +2,5 @@ pub mod Offsets
 pub mod Cells
 pub mod Pointers
 pub mod Operands
+pub mod Closures
+pub mod Executions
