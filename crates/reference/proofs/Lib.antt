@@ -4,3 +4,5 @@ pub mod Pointers
 pub mod Operands
 pub mod Closures
 pub mod Executions
+pub mod Maps
+pub mod Queues
