@@ -2,9 +2,11 @@
 -- Assumes nothing.
 use Prim.Native.Nat.{ℕ}
 use mathlib.Core.Path.{_≡_, refl, sym, ap, subst, _∙_}
-use mathlib.Core.Bool.{Bool, true, false, cond, true≢false, false≢true}
+use mathlib.Core.Bool.{Bool, true, false, cond, not, true≢false, false≢true}
 use mathlib.Core.List.{List, [], _∷_}
 use mathlib.Core.Logic.{_⊎_, inl, inr}
+use lib.Dec.{T, eqb}
+use borrow.Author.Tests.{eq-eqb}
 use Rattle.machine.specs.State.{Machine, Outcome, Check, Verdict, accepted, refusal, first, settle}
 
 abbrev isAccepted : Verdict → Bool
@@ -41,6 +43,10 @@ number-of P (c ∷ cs) h n v e = go (c .applies) e (number-of P cs (h .1) n v)
     go : (b : Bool) → cond b (refusal (c .number) (c .value)) (first cs) ≡ refusal n v → (first cs ≡ refusal n v → P n) → P n
     go true e r = subst P (ap numberIn e) (h .0)
     go false e r = r e
+
+-- two numbers that the test tells apart
+pub other : {k n : ℕ} → T (not (eqb k n)) → k ≡ n → ⊥
+other {k} {n} t e = subst (λ (b : Bool). T (not b)) (eq-eqb k n e) t
 
 -- a number that is never given: each row that is reached does not apply or has another number
 abbrev pub Without : ℕ → List Check → Type 0

@@ -6,3 +6,4 @@ pub mod Closures
 pub mod Executions
 pub mod Maps
 pub mod Queues
+pub mod Steps
