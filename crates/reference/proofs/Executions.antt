@@ -21,7 +21,7 @@ use Rattle.load_file.proofs.Offsets.{product-fits}
 use Rattle.load_file.proofs.Soundness.{Sound, in-range}
 use Rattle.machine.specs.Pointers.{less}
 use Rattle.machine.specs.Execution as Execution
-use Rattle.machine.specs.Execution.{dat, divisor, Next, ends, goes, splits, Effect, Scene, Met, some?, branch, skip, quotient, remainder, isNone, stored, computes, copied, equal, effectOf}
+use Rattle.machine.specs.Execution.{Ending, dat, divisor, Next, ends, goes, splits, Effect, Scene, Met, some?, branch, skip, quotient, remainder, isNone, stored, computes, copied, equal, effectOf}
 use Rattle.machine.specs.Instruction.{storeTo}
 use Rattle.machine.proofs.Pointers.{SoundCore, fields-at}
 use Rattle.machine.proofs.Execution.{row, row-computes, SoundStore, effect-sound}
@@ -39,10 +39,13 @@ use Rattle.reference.proofs.Cells.{get-word, set-word, eq-words}
 use Rattle.reference.proofs.Pointers.{same-set}
 use Rattle.reference.proofs.Closures.{captures, start, wholeIf, ran-is, captures-any, captures-same, stored-none, never-stored, recode, recode-stored}
 
--- what our next places are to the Rust
+-- what our endings and our next places are to the Rust
+abbrev pub errorOf : Ending → ℕ → Error
+errorOf dat place = ExecuteDat place
+errorOf divisor place = DivideByZero
+
 abbrev pub Matches : ℕ → ℕ → Next → Result → Type 0
-Matches m pc (ends dat) r = r ≡ Err (ExecuteDat pc)
-Matches m pc (ends divisor) r = r ≡ Err DivideByZero
+Matches m pc (ends x) r = r ≡ Err (errorOf x pc)
 Matches m pc (goes p) r = (x : Option ℕ) × (r ≡ Ok (record { program-counter-offset = x; should-split = false })) × (add m pc (or-one m x) ≡ p)
 Matches m pc (splits p c) r =
     (x : Option ℕ) × (r ≡ Ok (record { program-counter-offset = x; should-split = true })) × (add-i32 m pc (pos 1) ≡ p) × (add m pc (or-one m x) ≡ c)

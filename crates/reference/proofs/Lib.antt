@@ -7,3 +7,4 @@ pub mod Executions
 pub mod Maps
 pub mod Queues
 pub mod Steps
+pub mod Stepping

@@ -119,7 +119,7 @@ module _ (m : Machine) (c : Core) (s : Same m c) (r : Ready m) where
   abbrev t : List ℕ
   t = nameOf m (front m)
 
-  abbrev fewer : List ℕ
+  abbrev pub fewer : List ℕ
   fewer = set (m .header .counts) at (getD (m .header .counts) at 0 - 1)
 
   abbrev pub left : Queue
