@@ -86,7 +86,7 @@ module _ (h : Header) (n : List ℕ) (b : Bounded h) (free : (not (isNew h n) &&
       go true = record { steps = b .steps; threads = every-set (λ k. k ≤ 4294967295) (h .threads) (h .held) 0 (b .threads) (omega arith) }
       go false = b
 
-  registered-below : getD (registered h n .threads) (slot h n) 0 < 4294967295
+  pub registered-below : getD (registered h n .threads) (slot h n) 0 < 4294967295
   unfolding register
   registered-below = go (isNew h n) refl free
     where

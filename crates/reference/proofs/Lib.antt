@@ -8,3 +8,4 @@ pub mod Maps
 pub mod Queues
 pub mod Steps
 pub mod Stepping
+pub mod Bodies
