@@ -9,3 +9,5 @@ pub mod Queues
 pub mod Steps
 pub mod Stepping
 pub mod Bodies
+pub mod Registering
+pub mod Loading
