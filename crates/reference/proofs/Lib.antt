@@ -11,3 +11,6 @@ pub mod Stepping
 pub mod Bodies
 pub mod Registering
 pub mod Loading
+pub mod Running
+pub mod Loops
+pub mod Refinement
