@@ -78,10 +78,15 @@ cycles-are : (ceiling : Ceiling) → max-cycles (cyclesOf ceiling) ≡ ceilingOf
 cycles-are Unsaid = refl
 cycles-are (Steps n) = refl
 
+-- the loop goes round as often as our run steps
+turns-are : (ceiling : Ceiling) (m : Machine) (c : Core) → Same m c
+    → Rust.run (cyclesOf ceiling) c ≡ loop (ceilingOf ceiling - m .header .steps) (ceilingOf ceiling) c
+unfolding Rust.run
+turns-are ceiling m c same = ap₂ (λ (x y : ℕ). loop (x - y) x c) (cycles-are ceiling) (same .steps-taken)
+
 pub run-agrees : (ceiling : Ceiling) (m : Machine) (c : Core) → SoundMachine m → Same m c
     → answered (run ceiling m .number) ≡ true → meetsPlays (ceilingOf ceiling - m .header .steps) m ≡ false
     → Agreed (run ceiling m) (Rust.run (cyclesOf ceiling) c)
-unfolding Rust.run
 run-agrees ceiling m c s same =
-    rw (run-plays ceiling m (header-sound m (s .header)), cycles-are ceiling, same .steps-taken)
+    rw (run-plays ceiling m (header-sound m (s .header)), turns-are ceiling m c same)
     (plays-agree (ceilingOf ceiling - m .header .steps) (ceilingOf ceiling) m c s same refl)
