@@ -39,6 +39,10 @@ put-b-is : (o : Option ℕ) (c : Cell) → put-b o (instructionOf c) ≡ instruc
 put-b-is none c = refl
 put-b-is (some x) c = refl
 
+-- any
+abbrev pub Any : {S : Type 0} → S → Type 0
+Any s = Unit {0}
+
 -- a closure that, as long as what it has captured is such, changes it so and returns that value, at offsets below m
 module _ {S : Type 0} (m : ℕ) (op : S → ℕ → ℕ → Called S ℕ) (change : S → ℕ → ℕ → S) (val : ℕ → ℕ → Option ℕ) (Such : S → Type 0)
     (called : (s : S) (a b : ℕ) → Such s → a < m → b < m → (op s a b ≡ record { captured = change s a b; returned = val a b }) × Such (change s a b)) where

@@ -3,6 +3,9 @@ pub mod Cells
 pub mod Pointers
 pub mod Operands
 pub mod Closures
+pub mod Registers
+pub mod Arithmetic
+pub mod Branches
 pub mod Executions
 pub mod Maps
 pub mod Queues
@@ -14,3 +17,5 @@ pub mod Loading
 pub mod Running
 pub mod Loops
 pub mod Refinement
+mod Example
+mod Battles

@@ -1,11 +1,11 @@
 -- One load, of a sound machine and from a same state: to a same state, with the Rust's answer.
 -- Assumes nothing.
-use Prim.Native.Nat.{ℕ, _+_, _%_, _^_, _≤_, _<_}
+use Prim.Native.Nat.{ℕ, _%_, _^_, _≤_, _<_}
 use mathlib.Core.Path.{_≡_, refl, sym, ap, ap₂, _∙_}
 use mathlib.Core.Bool.{Bool, true, false, cond, false≢true}
 use mathlib.Core.List.{List, [], _∷_, map}
 use mathlib.Core.Logic.{inl, inr}
-use mathlib.Core.Option.{Option, none, some}
+use mathlib.Core.Option.{none, some}
 use native.Mathlib.Nat.{zero-add}
 use native.Mathlib.Omega.{arith}
 use lib.Dec.{eqb, leb, ltb}
@@ -15,14 +15,14 @@ use borrow.Author.Tests.{le-ltb, lt-leb, ne-eqb}
 use Rattle.laws.proofs.Every.{_and_}
 use Rattle.load_file.specs.Offset.{ahead}
 use Rattle.load_file.proofs.Offsets.{ahead-lt}
-use Rattle.program.specs.Program.{instructions, split, cells}
+use Rattle.program.specs.Program.{instructions, split}
 use Rattle.program.specs.Metadata.{called}
 use Rattle.program.proofs.Names.{called-valid}
 use Rattle.program.proofs.Program.{length-split}
 use Rattle.machine.specs.State.{Machine, accepted, refusal, first}
 use Rattle.machine.specs.Names.{slot, registered}
-use Rattle.machine.specs.Queue.{entries, started}
-use Rattle.machine.specs.Load.{placed, originOf, loaded, loadChecks, load}
+use Rattle.machine.specs.Queue.{entries}
+use Rattle.machine.specs.Load.{originOf, loaded, loadChecks, load}
 use Rattle.machine.proofs.Checks.{passes, number-of, other, Without, without}
 use Rattle.machine.proofs.Soundness.{size-positive, size-most, size-small}
 use Rattle.machine.proofs.Bounds.{registered-below}

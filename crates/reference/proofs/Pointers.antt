@@ -17,7 +17,7 @@ use Rattle.load_file.specs.Cells.{unpacked, number, withNumber}
 use Rattle.load_file.proofs.Offsets.{ahead-lt}
 use Rattle.load_file.proofs.Words.{word-range, with-range}
 use Rattle.load_file.proofs.Soundness.{Sound}
-use Rattle.machine.specs.Pointers.{Reach, here, there, through, reaches, Turn, keeps, lowers, raises, turns, fieldOf, less, more, used, pointerOf, changed, before, after}
+use Rattle.machine.specs.Pointers.{Reach, here, there, through, reaches, Turn, keeps, lowers, raises, turns, fieldOf, used, pointerOf, changed, before, after}
 use Rattle.machine.proofs.Pointers.{SoundCore, fields-at}
 use Rattle.reference.specs.Types as Rust
 use Rattle.reference.specs.Types.{AddressMode, Immediate, Direct, IndirectA, IndirectB, PreDecIndirectA, PreDecIndirectB, PostIncIndirectA, PostIncIndirectB, Instruction, default, set-a, set-b}

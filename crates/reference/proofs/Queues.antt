@@ -7,7 +7,6 @@ use mathlib.Core.Option.{Option, none, some}
 use native.Mathlib.Omega.{arith}
 use lib.ListN.{length, getD, set}
 use Rattle.machine.specs.declared.Entry.{Entry}
-use Rattle.machine.specs.declared.Header.{Header}
 use Rattle.machine.specs.State.{Machine}
 use Rattle.machine.specs.Names.{names, numbered}
 use Rattle.machine.specs.Queue.{entry, packedEntry, entries, front, nameOf, pop, push, started}

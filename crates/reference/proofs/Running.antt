@@ -18,7 +18,7 @@ use Rattle.machine.proofs.Run.{run-plays}
 use Rattle.machine.proofs.SoundMachine.{SoundMachine, step-keeps}
 use Rattle.reference.specs.Process.{NoRemainingProcesses, ExecuteDat, DivideByZero}
 use Rattle.reference.specs.Core as Rust
-use Rattle.reference.specs.Core.{Core, WarriorTooLong, Err, Panic, Returned, max-cycles, is-ok, loop}
+use Rattle.reference.specs.Core.{Core, WarriorTooLong, Err, Panic, max-cycles, is-ok, loop}
 use Rattle.reference.specs.Same.{Same}
 use Rattle.reference.specs.Refinement.{meetsStep, meetsPlays, answered, cyclesOf, answerOf}
 use Rattle.reference.proofs.Stepping.{Agreed, step-agrees}

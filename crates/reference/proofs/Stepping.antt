@@ -1,9 +1,9 @@
 -- One step, of a sound machine and from a same state: to a same state, with the Rust's answer.
 -- Assumes nothing.
 use Prim.Native.Nat.{ℕ, zero, suc, _+_, _^_, _≤_, _<_}
-use mathlib.Core.Path.{_≡_, refl, sym, ap, subst, _∙_}
-use mathlib.Core.Bool.{Bool, true, false, cond, _&&_, false≢true}
-use mathlib.Core.List.{List, [], _∷_, map}
+use mathlib.Core.Path.{_≡_, refl, ap, _∙_}
+use mathlib.Core.Bool.{Bool, true, false, _&&_, false≢true}
+use mathlib.Core.List.{List, map}
 use mathlib.Core.Logic.{inl, inr}
 use mathlib.Core.Option.{Option, none, some}
 use native.Mathlib.Omega.{arith}
@@ -13,10 +13,10 @@ use borrow.Author.Tests.{eqb-true, leb-false, le-ltb, lt-leb}
 use Rattle.laws.proofs.Every.{_and_, every-or}
 use Rattle.machine.specs.declared.Entry.{Entry}
 use Rattle.machine.specs.declared.Header.{Header}
-use Rattle.machine.specs.State.{Machine, Outcome, accepted, refusal, first, settle}
+use Rattle.machine.specs.State.{Machine, Outcome, accepted, refusal, first}
 use Rattle.machine.specs.Queue.{entry, slots, entries, front, nameOf, full, pop, push, started}
 use Rattle.machine.specs.Execution.{Ending, dat, divisor, Next, ends, goes, splits}
-use Rattle.machine.specs.Step.{popped, pc, instruction, effect, coreAfter, counted, Queued, queued, nextTold, executed, stepChecks, step}
+use Rattle.machine.specs.Step.{popped, pc, instruction, effect, coreAfter, counted, queued, nextTold, executed, stepChecks, step}
 use Rattle.machine.proofs.Checks.{passes, number-of, other, Without, without}
 use Rattle.machine.proofs.Names.{Held}
 use Rattle.machine.proofs.Soundness.{SoundHeader, size-small, push-sound}
@@ -27,16 +27,14 @@ use Rattle.machine.proofs.Execution.{Places}
 use Rattle.machine.proofs.Step.{next-places, step-by-cases, Ready, ready, not-last, front-held, counting, counting-sound, counting-room}
 use Rattle.machine.proofs.SoundMachine.{SoundMachine}
 use Rattle.reference.specs.Types.{Instruction}
-use Rattle.reference.specs.Offset.{add, add-i32}
 use Rattle.reference.specs.Process as Process
-use Rattle.reference.specs.Process.{Queue, Error, NoRemainingProcesses, ExecuteDat, DivideByZero, get}
-use Rattle.reference.specs.Opcodes as Opcodes
+use Rattle.reference.specs.Process.{NoRemainingProcesses, ExecuteDat, DivideByZero, get}
 use Rattle.reference.specs.Opcodes.{Result, Execution, execute}
 use Rattle.reference.specs.Core as Rust
-use Rattle.reference.specs.Core.{Core, Ok, Err, Returned, unless-alive, with-queue, or-one, after, stepped}
+use Rattle.reference.specs.Core.{Core, Err, Returned, unless-alive, with-queue, after, stepped}
 use Rattle.reference.specs.Same.{wordOf, entryOf, Same}
 use Rattle.reference.specs.Refinement.{isSplit, meetsStep, answered, answerOf}
-use Rattle.reference.proofs.Executions.{errorOf, Matches}
+use Rattle.reference.proofs.Registers.{errorOf, Matches}
 use Rattle.reference.proofs.Maps.{get-held}
 use Rattle.reference.proofs.Queues.{push-same, started-same, fewer, left, pop-is, counted-same}
 use Rattle.reference.proofs.Steps.{execute-is}

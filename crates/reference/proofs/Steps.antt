@@ -4,16 +4,15 @@ use Prim.Native.Nat.{ℕ, _≤_, _<_}
 use mathlib.Core.Path.{_≡_, sym, ap, ap₂, subst, _∙_}
 use mathlib.Core.List.{List, map}
 use native.Mathlib.Omega.{arith}
-use lib.ListN.{length, getD}
+use lib.ListN.{length}
 use Rattle.load_file.specs.Types.{A, B}
-use Rattle.load_file.specs.Cells.{unpacked}
 use Rattle.load_file.proofs.Soundness.{Sound}
 use Rattle.machine.specs.State.{Machine}
 use Rattle.machine.specs.Pointers.{operand}
 use Rattle.machine.specs.Instruction.{fetched}
-use Rattle.machine.specs.Step.{pc, instruction, operandA, operandB, effect, coreAfter}
+use Rattle.machine.specs.Step.{pc, instruction, operandA, operandB, effect}
 use Rattle.machine.proofs.Soundness.{size-positive, size-most}
-use Rattle.machine.proofs.Pointers.{SoundCore, fields-at, SoundOperand}
+use Rattle.machine.proofs.Pointers.{fields-at, SoundOperand}
 use Rattle.machine.proofs.Step.{operand-a-sound, operand-b-sound}
 use Rattle.machine.proofs.SoundMachine.{SoundMachine}
 use Rattle.reference.specs.Types.{Instruction}
@@ -98,6 +97,22 @@ module _ (m : Machine) (s : SoundMachine m) (pc-in : pc m < m .header .size) (op
   execute-is =
       subst (λ (x : Execution). Done size (pc m) (operandB m .pointer) (operandB m .core) x (effect m))
       (sym (ap₂ (λ (i : Instruction) (e : Executor). by-opcode (i .opcode) size (pc m) e) (get-word (m .core) (pc m) (rw (s .core .length) pc-in)) executor-is))
-      (executes size small (operandB m .core) (b-sound .core) (pc m) (operandA m .pointer) (operandB m .pointer)
-      pc-in (a-sound .pointer) (b-sound .pointer) (instruction m .modifier) (omega (arith, cell .modifier))
-      (operandA m .register) (operandB m .register) (a-sound .register) (b-sound .register) modifier-is (instruction m .opcode) opcode-in)
+      (executes (record {
+        size = size;
+        core = operandB m .core;
+        pc = pc m;
+        jump = operandA m .pointer;
+        target = operandB m .pointer;
+        modifier = instruction m .modifier;
+        ra = operandA m .register;
+        rb = operandB m .register;
+        small = small;
+        sound = b-sound .core;
+        pc-in = pc-in;
+        jump-in = a-sound .pointer;
+        target-in = b-sound .pointer;
+        modifier-in = omega (arith, cell .modifier);
+        ra-in = a-sound .register;
+        rb-in = b-sound .register;
+        modifier-is = modifier-is;
+      }) (instruction m .opcode) opcode-in)
