@@ -6,7 +6,9 @@ use mathlib.Core.Bool.{Bool, true, false, cond, not, true≢false, false≢true}
 use mathlib.Core.List.{List, [], _∷_}
 use mathlib.Core.Logic.{_⊎_, inl, inr}
 use lib.Dec.{T, eqb}
-use borrow.Author.Tests.{eq-eqb}
+use borrow.Author.Tests.{eq-eqb, not-true}
+use Rattle.laws.specs.Lists.{every}
+use Rattle.laws.proofs.Tests.{both}
 use Rattle.machine.specs.State.{Machine, Outcome, Check, Verdict, accepted, refusal, first, settle}
 
 abbrev isAccepted : Verdict → Bool
@@ -62,6 +64,13 @@ without k (c ∷ cs) w n v e z = go (c .applies) refl e (w .0) (λ f e. without 
     go true h e (inl f) r = true≢false (sym h ∙ f)
     go true h e (inr f) r = f (ap numberIn e ∙ z)
     go false h e x r = r h e
+
+-- so where no row has the number
+pub others : (k : ℕ) (cs : List Check) → every (λ c. not (eqb (c .number) k)) cs ≡ true → Without k cs
+others k [] e = tt
+others k (c ∷ cs) e =
+    let p = both (not (eqb (c .number) k)) (every (λ c. not (eqb (c .number) k)) cs) e in
+    (inr (λ q. true≢false (sym (eq-eqb (c .number) k q) ∙ not-true (eqb (c .number) k) (p .0))), λ f. others k cs (p .1))
 
 -- a refusal leaves the machine as it was and reports 0 writes, steps and pushes
 pub record Refused (m : Machine) (o : Outcome) : Type 0 where

@@ -1,11 +1,12 @@
 -- A machine that is sound all through is answered no 9 by load, step and run, and 0 by cell reading.
 -- Assumes nothing.
 use Prim.Native.Nat.{ℕ}
-use mathlib.Core.Path.{_≡_, sym, ap, ap₂, _∙_}
+use mathlib.Core.Path.{_≡_, refl, sym, ap, ap₂, _∙_}
 use mathlib.Core.Bool.{Bool, not, _&&_, true≢false}
 use mathlib.Core.List.{List}
 use mathlib.Core.Logic.{inl, inr}
 use lib.IntN.{ℤ}
+use lib.ListN.{drop}
 use Rattle.laws.proofs.Every.{_and_}
 use Rattle.load_file.specs.Offset.{euclid}
 use Rattle.load_file.proofs.Offsets.{euclid-lt}
@@ -15,7 +16,7 @@ use Rattle.machine.specs.Queue.{front}
 use Rattle.machine.specs.Load.{loadChecks, load}
 use Rattle.machine.specs.Step.{pc, stepChecks, step, executes}
 use Rattle.machine.specs.Run.{run, read}
-use Rattle.machine.proofs.Checks.{other, Without, without}
+use Rattle.machine.proofs.Checks.{other, Without, others, without}
 use Rattle.machine.proofs.Soundness.{header-sound, size-positive, entry-sound}
 use Rattle.machine.proofs.Pointers.{cell-at}
 use Rattle.machine.proofs.Load.{is-loaded, load-by-cases}
@@ -45,13 +46,7 @@ module _ (m : Machine) (s : SoundMachine m) where
 
   load-without-nine : (given body : List ℕ) (place : ℕ) → Without 9 (loadChecks m given body place)
   load-without-nine given body place =
-      inl (ap not (header-sound m (s .header)))
-      and λ a. inr (other tt)
-      and λ b. inr (other tt)
-      and λ c. inr (other tt)
-      and λ d. inr (other tt)
-      and λ e. inr (other tt)
-      and λ f. tt
+      inl (ap not (header-sound m (s .header))) and λ a. others 9 (drop 1 (loadChecks m given body place)) refl
 
   pub load-not-nine : (given body : List ℕ) (origin place : ℕ) → load m given body origin place .number ≡ 9 → ⊥
   load-not-nine given body origin place =

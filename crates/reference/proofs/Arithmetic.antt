@@ -70,7 +70,8 @@ module _ (its : Registers) where
 
       called : (s : Bool) (a b : ℕ) → s ≡ false → a < its .size → b < its .size → (multiplies (its .size) s a b ≡ record { captured = s; returned = product a b }) × (s ≡ false)
       called s a b e ha hb = (
-        ap₂ (λ (t : Bool) (x : ℕ). cond t (leaves true) (returns false x)) (ap₂ _||_ e (lt-leb (2 ^ 31) (a * b) (product-fits a b ha hb (its .small)))) (offset-pos (its .size) (some0 its) (its .small) (a * b))
+        ap₂ (λ (t : Bool) (x : ℕ). cond t (leaves true) (returns false x))
+            (ap₂ _||_ e (lt-leb (2 ^ 31) (a * b) (product-fits a b ha hb (its .small)))) (offset-pos (its .size) (some0 its) (its .small) (a * b))
             ∙ ap (λ (t : Bool). record { captured = t; returned = product a b }) (sym e),
         e,
       )
@@ -85,7 +86,10 @@ module _ (its : Registers) where
       → Does its (divided (executor its) (run-on-fields (its .size) (executor its) (divides f) none)) (computes (scene its) v (live its))
   parts f v h =
       record {
-        core = ap (written its) ran ∙ ap (λ (c : Cell). set (map wordOf (its .core)) (its .target) (instructionOf c)) (sym (cell-is (every (λ x. not (not (isNone (v (its .size) (x .a) (x .b))))) (mets its)) refl));
+        core =
+            ap (written its) ran
+            ∙ ap (λ (c : Cell). set (map wordOf (its .core)) (its .target) (instructionOf c))
+            (sym (cell-is (every (λ x. not (not (isNone (v (its .size) (x .a) (x .b))))) (mets its)) refl));
         next =
             subst (Matches (its .size) (its .pc) (computes (scene its) v (live its) .next))
             (sym (ap (λ (r : Ran (Option Error)). unless-error (r .captured)) ran ∙ ap unless-error (captures-any (λ a b. isNone (v (its .size) a b)) (some DivideByZero) none (mets its))))
@@ -101,7 +105,8 @@ module _ (its : Registers) where
           at true = refl
           at false = refl
 
-      ran : run-on-fields (its .size) (executor its) (divides f) none ≡ start (captures (λ s a b. cond (isNone (v (its .size) a b)) (some DivideByZero) s) none (mets its)) (stored (v (its .size)) (mets its) (live its))
+      ran : run-on-fields (its .size) (executor its) (divides f) none
+          ≡ start (captures (λ s a b. cond (isNone (v (its .size) a b)) (some DivideByZero) s) none (mets its)) (stored (v (its .size)) (mets its) (live its))
       ran =
           fields-is its (divides f) (λ s a b. cond (isNone (v (its .size) a b)) (some DivideByZero) s) (v (its .size)) Any (λ s a b x ha hb. (called s a b, tt)) none tt
 

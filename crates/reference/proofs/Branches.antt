@@ -1,6 +1,6 @@
 -- JMZ, JMN, DJN, CMP, SEQ, SNE, SLT: where the Rust's closures go on is where our effect does.
 -- Assumes nothing.
-use Prim.Native.Nat.{ℕ}
+use Prim.Native.Nat.{ℕ, _<_}
 use mathlib.Core.Path.{_≡_, refl, sym, ap, ap₂, _∙_, fun-ext}
 use mathlib.Core.Bool.{Bool, true, false, cond, not, _&&_, _||_, Bool·not-not}
 use mathlib.Core.Option.{Option, none, some}
@@ -23,7 +23,7 @@ use Rattle.reference.specs.Same.{opcodeOf, instructionOf}
 use Rattle.reference.proofs.Offsets.{offset-in, sub-one}
 use Rattle.reference.proofs.Cells.{eq-words}
 use Rattle.reference.proofs.Closures.{Any, captures, start, wholeIf, captures-any, never-stored}
-use Rattle.reference.proofs.Registers.{Registers, live, mets, executor, scene, Does, live-in, run-is, fields-is, to-place, jumps, skips, written, some0}
+use Rattle.reference.proofs.Registers.{Registers, live, mets, executor, scene, Does, live-in, run-is, fields-is, to-place, jump-offset, jumps, skip-one, skips, written, some0}
 
 module _ (its : Registers) where
   -- a test of the pairs that stores nothing
@@ -58,7 +58,8 @@ module _ (its : Registers) where
       run-is its (unlike to) (λ s a b. cond (not (eqb a b)) to s) (λ a b. none) Any (λ s a b x ha hb. (refl, tt)) s tt (some (unlike-whole to))
       ∙ ap (wholeIf (eqb (its .modifier) I) (some (unlike-whole to)) (instructionOf (its .ra)))
       (ap₂ start (captures-any (λ a b. not (eqb a b)) to s (mets its) ∙ ap (λ (b : Bool). cond (not b) to s) (plainly eqb)) (never-stored (mets its) (live its)))
-      ∙ go (eqb (its .modifier) I) (every (λ x. eqb (x .a) (x .b)) (mets its)) (eqb (packed (its .ra)) (packed (live its))) (eq-words (its .size) (its .ra) (live its) (omega arith) (its .ra-in) (live-in its))
+      ∙ go (eqb (its .modifier) I) (every (λ x. eqb (x .a) (x .b)) (mets its)) (eqb (packed (its .ra)) (packed (live its)))
+      (eq-words (its .size) (its .ra) (live its) (omega arith) (its .ra-in) (live-in its))
     where
       go : (i m w : Bool) → w ≡ instruction-eq (instructionOf (its .ra)) (instructionOf (live its))
           → wholeIf i (some (unlike-whole to)) (instructionOf (its .ra)) (start (cond (not m) to s) (live its)) ≡ start (cond (m && (not i || w)) s to) (live its)
@@ -72,12 +73,12 @@ module _ (its : Registers) where
           either false = refl
 
   pub equals : Does its (by-opcode (opcodeOf 12) (its .size) (its .pc) (executor its)) (skip (scene its) (equal (scene its)))
-  equals = branches _ (equal (scene its)) (offset (its .size) (pos 2)) (ahead (its .size) (its .pc) 2) (compares none (some (offset (its .size) (pos 2)))) (skips its)
+  equals = branches _ (equal (scene its)) (skip-one its) (ahead (its .size) (its .pc) 2) (compares none (some (skip-one its))) (skips its)
 
   pub differs : Does its (by-opcode (opcodeOf 13) (its .size) (its .pc) (executor its)) (skip (scene its) (not (equal (scene its))))
   differs =
-      branches _ (not (equal (scene its))) (offset (its .size) (pos 2)) (ahead (its .size) (its .pc) 2)
-      (compares (some (offset (its .size) (pos 2))) none ∙ ap (λ (o : Option ℕ). start o (live its)) (sym (turned (equal (scene its)) (some (offset (its .size) (pos 2))) none))) (skips its)
+      branches _ (not (equal (scene its))) (skip-one its) (ahead (its .size) (its .pc) 2)
+      (compares (some (skip-one its)) none ∙ ap (λ (o : Option ℕ). start o (live its)) (sym (turned (equal (scene its)) (some (skip-one its)) none))) (skips its)
 
   -- DJN
   pub counts : Does its (by-opcode (opcodeOf 10) (its .size) (its .pc) (executor its)) (Execution.counts (scene its))
@@ -87,19 +88,25 @@ module _ (its : Registers) where
         next = (
           _,
           refl,
-          to-place its (some? (λ x. not (eqb (less (its .size) (x .b)) 0)) (scene its)) (sub (its .size) (its .jump) (its .pc)) (its .jump) _ (jumps its)
-              (ap (λ (r : Ran (Option ℕ)). r .captured) ran ∙ captures-any (λ a b. not (eqb (less (its .size) b) 0)) (some (sub (its .size) (its .jump) (its .pc))) none (mets its)),
+          to-place its (some? (λ x. not (eqb (less (its .size) (x .b)) 0)) (scene its)) (jump-offset its) (its .jump) _ (jumps its)
+              (ap (λ (r : Ran (Option ℕ)). r .captured) ran ∙ captures-any (λ a b. not (eqb (less (its .size) b) 0)) (some (jump-offset its)) none (mets its)),
         );
       }
     where
-      ran : run-on-fields (its .size) (executor its) (decrements (its .size) (offset (its .size) (pos 0)) (sub (its .size) (its .jump) (its .pc))) none
-          ≡ start (captures (λ s a b. cond (not (eqb (less (its .size) b) 0)) (some (sub (its .size) (its .jump) (its .pc))) s) none (mets its)) (stored (Execution.lowered (its .size)) (mets its) (live its))
+      change : Option ℕ → ℕ → ℕ → Option ℕ
+      change s a b = cond (not (eqb (less (its .size) b) 0)) (some (jump-offset its)) s
+
+      called : (s : Option ℕ) (a b : ℕ) → b < its .size
+          → decrements (its .size) (offset (its .size) (pos 0)) (jump-offset its) s a b ≡ record { captured = change s a b; returned = Execution.lowered (its .size) a b }
+      called s a b h =
+          ap₂ (λ (d z : ℕ). record { captured = cond (not (eqb d z)) (some (jump-offset its)) s; returned = some d })
+          (sub-one (its .size) (some0 its) (its .small) b h) zero-is
+
+      ran : run-on-fields (its .size) (executor its) (decrements (its .size) (offset (its .size) (pos 0)) (jump-offset its)) none
+          ≡ start (captures change none (mets its)) (stored (Execution.lowered (its .size)) (mets its) (live its))
       ran =
-          fields-is its (decrements (its .size) (offset (its .size) (pos 0)) (sub (its .size) (its .jump) (its .pc))) (λ s a b. cond (not (eqb (less (its .size) b) 0)) (some (sub (its .size) (its .jump) (its .pc))) s) (Execution.lowered (its .size)) Any
-          (λ s a b x ha hb. (
-            ap₂ (λ (d z : ℕ). record { captured = cond (not (eqb d z)) (some (sub (its .size) (its .jump) (its .pc))) s; returned = some d }) (sub-one (its .size) (some0 its) (its .small) b hb) zero-is,
-            tt,
-          )) none tt
+          fields-is its (decrements (its .size) (offset (its .size) (pos 0)) (jump-offset its)) change (Execution.lowered (its .size)) Any
+          (λ s a b x ha hb. (called s a b hb, tt)) none tt
 
   not-below : (a b : ℕ) → leb b a ≡ not (ltb a b)
   not-below a b = go (leb b a) refl
@@ -111,18 +118,18 @@ module _ (its : Registers) where
   -- JMZ, JMN, SLT
   pub zeroes : Does its (by-opcode (opcodeOf 8) (its .size) (its .pc) (executor its)) (branch (scene its) (some? (λ x. eqb (x .b) 0) (scene its)) (its .jump))
   zeroes =
-      branches _ (some? (λ x. eqb (x .b) 0) (scene its)) (sub (its .size) (its .jump) (its .pc)) (its .jump)
-      (tests (λ a b. eqb b 0) (λ a b. eqb b (offset (its .size) (pos 0))) (λ a b. ap (eqb b) zero-is) (some (sub (its .size) (its .jump) (its .pc))) none) (jumps its)
+      branches _ (some? (λ x. eqb (x .b) 0) (scene its)) (jump-offset its) (its .jump)
+      (tests (λ a b. eqb b 0) (λ a b. eqb b (offset (its .size) (pos 0))) (λ a b. ap (eqb b) zero-is) (some (jump-offset its)) none) (jumps its)
 
-  pub others : Does its (by-opcode (opcodeOf 9) (its .size) (its .pc) (executor its)) (branch (scene its) (some? (λ x. not (eqb (x .b) 0)) (scene its)) (its .jump))
-  others =
-      branches _ (some? (λ x. not (eqb (x .b) 0)) (scene its)) (sub (its .size) (its .jump) (its .pc)) (its .jump)
-      (tests (λ a b. not (eqb b 0)) (λ a b. not (eqb b (offset (its .size) (pos 0)))) (λ a b. ap (λ (z : ℕ). not (eqb b z)) zero-is) (some (sub (its .size) (its .jump) (its .pc))) none) (jumps its)
+  pub nonzeroes : Does its (by-opcode (opcodeOf 9) (its .size) (its .pc) (executor its)) (branch (scene its) (some? (λ x. not (eqb (x .b) 0)) (scene its)) (its .jump))
+  nonzeroes =
+      branches _ (some? (λ x. not (eqb (x .b) 0)) (scene its)) (jump-offset its) (its .jump)
+      (tests (λ a b. not (eqb b 0)) (λ a b. not (eqb b (offset (its .size) (pos 0)))) (λ a b. ap (λ (z : ℕ). not (eqb b z)) zero-is) (some (jump-offset its)) none) (jumps its)
 
   pub lesser : Does its (by-opcode (opcodeOf 14) (its .size) (its .pc) (executor its)) (skip (scene its) (every (λ x. ltb (x .a) (x .b)) (mets its)))
   lesser =
-      branches _ (every (λ x. ltb (x .a) (x .b)) (mets its)) (offset (its .size) (pos 2)) (ahead (its .size) (its .pc) 2)
-      (tests (λ a b. not (ltb a b)) (λ a b. leb b a) not-below none (some (offset (its .size) (pos 2)))
+      branches _ (every (λ x. ltb (x .a) (x .b)) (mets its)) (skip-one its) (ahead (its .size) (its .pc) 2)
+      (tests (λ a b. not (ltb a b)) (λ a b. leb b a) not-below none (some (skip-one its))
       ∙ ap (λ (o : Option ℕ). start o (live its))
-      (ap (λ (b : Bool). cond (not b) none (some (offset (its .size) (pos 2)))) (plainly ltb)
-      ∙ turned (every (λ x. ltb (x .a) (x .b)) (mets its)) none (some (offset (its .size) (pos 2))))) (skips its)
+      (ap (λ (b : Bool). cond (not b) none (some (skip-one its))) (plainly ltb)
+      ∙ turned (every (λ x. ltb (x .a) (x .b)) (mets its)) none (some (skip-one its)))) (skips its)

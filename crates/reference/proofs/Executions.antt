@@ -20,9 +20,9 @@ use Rattle.reference.specs.Opcodes.{by-opcode}
 use Rattle.reference.specs.Same.{opcodeOf, instructionOf, wordOf}
 use Rattle.reference.proofs.Offsets.{add-is, sub-is, add-num}
 use Rattle.reference.proofs.Cells.{set-word}
-use Rattle.reference.proofs.Registers.{Matches, cellOf, Registers, live, executor, scene, Does, kept, live-in, onward, jumps, idle, some0}
+use Rattle.reference.proofs.Registers.{Matches, cellOf, Registers, live, executor, scene, Does, kept, live-in, onward, jump-offset, jumps, idle, some0}
 use Rattle.reference.proofs.Arithmetic.{sums, moves-done, multiplied, parts, quotient-is, remainder-is}
-use Rattle.reference.proofs.Branches.{zeroes, others, counts, equals, differs, lesser}
+use Rattle.reference.proofs.Branches.{zeroes, nonzeroes, counts, equals, differs, lesser}
 
 pub record Done (size pc target : ℕ) (words : List ℕ) (x : Opcodes.Execution) (f : Effect) : Type 0 where
   pub core : x .core ≡ map wordOf (storeTo (f .cell) words target)
@@ -41,15 +41,15 @@ module _ (its : Registers) where
       and multiplied its
       and parts its (div (its .size)) quotient (quotient-is its)
       and parts its (rem (its .size)) remainder (remainder-is its)
-      and idle its _ (goes (its .jump)) (some (sub (its .size) (its .jump) (its .pc)), refl, jumps its)
+      and idle its _ (goes (its .jump)) (some (jump-offset its), refl, jumps its)
       and zeroes its
-      and others its
+      and nonzeroes its
       and counts its
       and equals its
       and equals its
       and differs its
       and lesser its
-      and idle its _ (splits (ahead (its .size) (its .pc) 1) (its .jump)) (some (sub (its .size) (its .jump) (its .pc)), refl, add-num (its .size) (some0 its) (its .small) (its .pc) 1 (its .pc-in), jumps its)
+      and idle its _ (splits (ahead (its .size) (its .pc) 1) (its .jump)) (some (jump-offset its), refl, onward its, jumps its)
       and idle its _ (goes (ahead (its .size) (its .pc) 1)) (none, refl, onward its)
       and tt)
 

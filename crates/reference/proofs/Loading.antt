@@ -10,7 +10,7 @@ use native.Mathlib.Nat.{zero-add}
 use native.Mathlib.Omega.{arith}
 use lib.Dec.{eqb, leb, ltb}
 use lib.IntN.{pos}
-use lib.ListN.{length, length-map}
+use lib.ListN.{length, drop, length-map}
 use borrow.Author.Tests.{le-ltb, lt-leb, ne-eqb}
 use Rattle.laws.proofs.Every.{_and_}
 use Rattle.load_file.specs.Offset.{ahead}
@@ -23,7 +23,7 @@ use Rattle.machine.specs.State.{Machine, accepted, refusal, first}
 use Rattle.machine.specs.Names.{slot, registered}
 use Rattle.machine.specs.Queue.{entries}
 use Rattle.machine.specs.Load.{originOf, loaded, loadChecks, load}
-use Rattle.machine.proofs.Checks.{passes, number-of, other, Without, without}
+use Rattle.machine.proofs.Checks.{passes, number-of, other, others, without}
 use Rattle.machine.proofs.Soundness.{size-positive, size-most, size-small}
 use Rattle.machine.proofs.Bounds.{registered-below}
 use Rattle.machine.proofs.Load.{Loadable, loadable, placing, placing-room, placing-sound, placing-held, load-by-cases}
@@ -87,7 +87,8 @@ module _ (m : Machine) (c : Core) (s : SoundMachine m) (same : Same m c) (given 
   load-is =
       ap (λ (l : List Instruction). at l (length l)) (same .instructions)
       ∙ ap (at (map wordOf (m .core))) (length-map (m .core) wordOf ∙ s .header .core)
-      ∙ ap₂ (λ (n : ℕ) (b : Bool). result (map wordOf (m .core)) size (ltb size n) b no-origin) (length-map (split (instructions body) body) readInstruction ∙ length-split (instructions body) body) has-offsets
+      ∙ ap₂ (λ (n : ℕ) (b : Bool). result (map wordOf (m .core)) size (ltb size n) b no-origin)
+      (length-map (split (instructions body) body) readInstruction ∙ length-split (instructions body) body) has-offsets
       ∙ ap (result (map wordOf (m .core)) size (ltb size (instructions body)) false) (origin-fits origin small)
     where
       no-origin : Bool
@@ -172,17 +173,7 @@ module _ (m : Machine) (c : Core) (s : SoundMachine m) (same : Same m c) (given 
       where
         go : (b : Bool) → ltb size (instructions body) ≡ b → b ≡ true
         go true q = refl
-        go false q = absurd (without 3 (loadChecks m given body 0) rows n v e is-three)
-          where
-            rows : Without 3 (loadChecks m given body 0)
-            rows =
-                inr (other tt)
-                and λ x. inl q
-                and λ x. inr (other tt)
-                and λ x. inr (other tt)
-                and λ x. inr (other tt)
-                and λ x. inr (other tt)
-                and λ x. tt
+        go false q = absurd (without 3 (loadChecks m given body 0) (inr (other tt) and λ x. inl q and λ y. others 3 (drop 2 (loadChecks m given body 0)) refl) n v e is-three)
 
   pub load-agrees : answered (load m given body origin 0 .number) ≡ true → Agreed (load m given body origin 0) (load-warrior (warriorOf given body origin) c)
   load-agrees =

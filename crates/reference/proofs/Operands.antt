@@ -24,7 +24,7 @@ use Rattle.reference.specs.Address.{get-offset, resolve-pointer, Pre, Po
 use Rattle.reference.specs.Modifiers.{Evaluated}
 use Rattle.reference.specs.Same.{modeOf, instructionOf, wordOf}
 use Rattle.reference.proofs.Cells.{get-word}
-use Rattle.reference.proofs.Pointers.{fieldAt, reachOf, turnOf, reach-is, turn-is, same-set, pointer-is, before-is, after-is}
+use Rattle.reference.proofs.Pointers.{fieldAt, reachOf, turnOf, reach-is, turn-is, same-set, pointer-is, applied-is}
 
 -- the codes of a cell
 pub record Codes (c d : Cell) : Type 0 where
@@ -179,7 +179,7 @@ module _ (size : ℕ) (small : size ≤ 46341) (core : List ℕ) (sound : SoundC
           ≡ map wordOf (after (turnOf m) size core (ahead size pc n) (fieldOf (reachOf m)) (held pc n (reachOf m)))
       plain =
           ap (λ (f : Rust.Field). apply-pointer size (map wordOf core) pc f Post) field-read
-          ∙ after-is size small core sound pc n pc-in n-in m
+          ∙ applied-is size small core sound pc n pc-in n-in Post m
 
       -- a decrement: the mode is as it was
       turned : turnOf m ≡ lowers → apply-pointer size (map wordOf (then m)) pc (field s (get-offset (map wordOf (then m)) pc)) Post ≡ map wordOf (then m)
@@ -193,7 +193,7 @@ module _ (size : ℕ) (small : size ≤ 46341) (core : List ℕ) (sound : SoundC
       pre : apply-pointer size (map wordOf core) pc (field s (get-offset (map wordOf core) pc)) Pre ≡ map wordOf (then m)
       pre =
           ap (λ (f : Rust.Field). apply-pointer size (map wordOf core) pc f Pre) field-read
-          ∙ before-is size small core sound pc n pc-in n-in m
+          ∙ applied-is size small core sound pc n pc-in n-in Pre m
 
       ptr : resolve-pointer size (map wordOf core) pc (field s (get-offset (map wordOf core) pc)) ≡ pointer pc n (reachOf m) (turnOf m)
       ptr = ap (resolve-pointer size (map wordOf core) pc) field-read ∙ pointer-is size small core sound pc n pc-in n-in m

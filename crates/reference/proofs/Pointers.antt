@@ -24,8 +24,7 @@ use Rattle.reference.specs.Types.{AddressMode, Immediate, Direct, Indire
 use Rattle.reference.specs.Offset.{offset, add-i32}
 use Rattle.reference.specs.Address.{get-offset, relative, resolve-pointer, EvalTime, Pre, Post, applied, apply-pointer}
 use Rattle.reference.specs.Same.{modeOf, instructionOf, wordOf}
-use Rattle.reference.proofs.Offsets as Offsets
-use Rattle.reference.proofs.Offsets.{add-num, decremented, incremented, through-is}
+use Rattle.reference.proofs.Offsets.{add-num, decremented, incremented, through-is, before-is}
 use Rattle.reference.proofs.Cells.{get-word, set-word}
 
 -- a field of the Rust's
@@ -52,6 +51,11 @@ turnOf PreDecIndirectA = lowers
 turnOf PreDecIndirectB = lowers
 turnOf PostIncIndirectA = raises
 turnOf PostIncIndirectB = raises
+
+-- the core after either of them
+abbrev pub turnAt : EvalTime → Turn → ℕ → List ℕ → ℕ → Field → ℕ → List ℕ
+turnAt Pre = before
+turnAt Post = after
 
 pub reach-is : (k : ℕ) → k < 8 → getD reaches k here ≡ reachOf (modeOf k)
 reach-is = below _ 8 (refl and refl and refl and refl and refl and refl and refl and refl and tt)
@@ -111,8 +115,8 @@ module _ (size : ℕ) (small : size ≤ 46341) (core : List ℕ) (sound : SoundC
       go IndirectB = through-is size some small pc n (cell .b .0) pc-in n-in (cell-in .b)
       go PostIncIndirectA = through-is size some small pc n (cell .a .0) pc-in n-in (cell-in .a)
       go PostIncIndirectB = through-is size some small pc n (cell .b .0) pc-in n-in (cell-in .b)
-      go PreDecIndirectA = Offsets.before-is size some small pc n (cell .a .0) pc-in n-in (cell-in .a)
-      go PreDecIndirectB = Offsets.before-is size some small pc n (cell .b .0) pc-in n-in (cell-in .b)
+      go PreDecIndirectA = before-is size some small pc n (cell .a .0) pc-in n-in (cell-in .a)
+      go PreDecIndirectB = before-is size some small pc n (cell .b .0) pc-in n-in (cell-in .b)
 
   -- apply_pointer, its location found
   apply-is : (mode : AddressMode) (t : EvalTime)
@@ -132,32 +136,27 @@ module _ (size : ℕ) (small : size ≤ 46341) (core : List ℕ) (sound : SoundC
   b-set : {x y : ℕ} → x ≡ y → y < 65536 → set instructions location (set-b (instructionOf cell) x) ≡ map wordOf (changed core location B y)
   b-set e h = ap (λ (x : ℕ). set instructions location (set-b (instructionOf cell) x)) e ∙ sym (changed-is core location B _ h)
 
-  pub before-is : (mode : AddressMode) → apply-pointer size instructions pc (fieldAt mode n) Pre
-      ≡ map wordOf (before (turnOf mode) size core location (fieldOf (reachOf mode)) (number (fieldOf (reachOf mode)) cell))
-  before-is mode = apply-is mode Pre ∙ go mode
+  -- the decrement, or the increment
+  pub applied-is : (t : EvalTime) (mode : AddressMode) → apply-pointer size instructions pc (fieldAt mode n) t
+      ≡ map wordOf (turnAt t (turnOf mode) size core location (fieldOf (reachOf mode)) (number (fieldOf (reachOf mode)) cell))
+  applied-is t mode = apply-is mode t ∙ go t mode
     where
-      go : (mode : AddressMode) → set instructions location (applied size Pre mode (offset size (pos (cell .a .0))) (offset size (pos (cell .b .0))) (instructionOf cell))
-          ≡ map wordOf (before (turnOf mode) size core location (fieldOf (reachOf mode)) (number (fieldOf (reachOf mode)) cell))
-      go Immediate = kept
-      go Direct = kept
-      go IndirectA = kept
-      go IndirectB = kept
-      go PostIncIndirectA = kept
-      go PostIncIndirectB = kept
-      go PreDecIndirectA = a-set (decremented size some small (cell .a .0)) (fits _)
-      go PreDecIndirectB = b-set (decremented size some small (cell .b .0)) (fits _)
-
-  pub after-is : (mode : AddressMode) → apply-pointer size instructions pc (fieldAt mode n) Post
-      ≡ map wordOf (after (turnOf mode) size core location (fieldOf (reachOf mode)) (number (fieldOf (reachOf mode)) cell))
-  after-is mode = apply-is mode Post ∙ go mode
-    where
-      go : (mode : AddressMode) → set instructions location (applied size Post mode (offset size (pos (cell .a .0))) (offset size (pos (cell .b .0))) (instructionOf cell))
-          ≡ map wordOf (after (turnOf mode) size core location (fieldOf (reachOf mode)) (number (fieldOf (reachOf mode)) cell))
-      go Immediate = kept
-      go Direct = kept
-      go IndirectA = kept
-      go IndirectB = kept
-      go PreDecIndirectA = kept
-      go PreDecIndirectB = kept
-      go PostIncIndirectA = a-set (incremented size some small (cell .a .0)) (fits _)
-      go PostIncIndirectB = b-set (incremented size some small (cell .b .0)) (fits _)
+      go : (t : EvalTime) (mode : AddressMode)
+          → set instructions location (applied size t mode (offset size (pos (cell .a .0))) (offset size (pos (cell .b .0))) (instructionOf cell))
+          ≡ map wordOf (turnAt t (turnOf mode) size core location (fieldOf (reachOf mode)) (number (fieldOf (reachOf mode)) cell))
+      go Pre Immediate = kept
+      go Pre Direct = kept
+      go Pre IndirectA = kept
+      go Pre IndirectB = kept
+      go Pre PreDecIndirectA = a-set (decremented size some small (cell .a .0)) (fits _)
+      go Pre PreDecIndirectB = b-set (decremented size some small (cell .b .0)) (fits _)
+      go Pre PostIncIndirectA = kept
+      go Pre PostIncIndirectB = kept
+      go Post Immediate = kept
+      go Post Direct = kept
+      go Post IndirectA = kept
+      go Post IndirectB = kept
+      go Post PreDecIndirectA = kept
+      go Post PreDecIndirectB = kept
+      go Post PostIncIndirectA = a-set (incremented size some small (cell .a .0)) (fits _)
+      go Post PostIncIndirectB = b-set (incremented size some small (cell .b .0)) (fits _)

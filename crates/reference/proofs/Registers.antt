@@ -97,6 +97,10 @@ module _ (its : Registers) where
   pub live-in : Sound (its .size) live
   live-in = fields-at (its .size) (its .core) (its .sound) (its .target) (its .target-in)
 
+  -- a register's number is its own offset
+  reduced : {n : ℕ} → n < its .size → offset (its .size) (pos n) ≡ n
+  reduced {n} h = offset-in (its .size) some0 (its .small) n h
+
   -- the closures run
   module _ {S : Type 0} (op : S → ℕ → ℕ → Called S ℕ) (change : S → ℕ → ℕ → S) (val : ℕ → ℕ → Option ℕ) (Such : S → Type 0)
       (called : (s : S) (a b : ℕ) → Such s → a < its .size → b < its .size → (op s a b ≡ record { captured = change s a b; returned = val a b }) × Such (change s a b))
@@ -105,9 +109,11 @@ module _ (its : Registers) where
         → run-on-instructions (its .size) executor op instruction-op s
         ≡ wholeIf (eqb (its .modifier) I) instruction-op (instructionOf (its .ra)) (start (captures change s mets) (stored val mets live))
     run-is instruction-op =
-        (λ i. by-modifier (its .modifier-is i) op instruction-op (offset-in (its .size) some0 (its .small) _ (its .ra-in .a) i) (offset-in (its .size) some0 (its .small) _ (its .ra-in .b) i)
-        (offset-in (its .size) some0 (its .small) _ (its .rb-in .a) i) (offset-in (its .size) some0 (its .small) _ (its .rb-in .b) i) (instructionOf (its .ra)) (record { captured = s; b-target = target-is i }))
-        ∙ ran-is (its .size) op change val Such called (its .ra) (its .rb) live (its .ra-in .a) (its .ra-in .b) (its .rb-in .a) (its .rb-in .b) instruction-op (instructionOf (its .ra)) s such (its .modifier) (its .modifier-in)
+        (λ i. by-modifier (its .modifier-is i) op instruction-op
+        (reduced (its .ra-in .a) i) (reduced (its .ra-in .b) i) (reduced (its .rb-in .a) i) (reduced (its .rb-in .b) i)
+        (instructionOf (its .ra)) (record { captured = s; b-target = target-is i }))
+        ∙ ran-is (its .size) op change val Such called (its .ra) (its .rb) live (its .ra-in .a) (its .ra-in .b) (its .rb-in .a) (its .rb-in .b)
+        instruction-op (instructionOf (its .ra)) s such (its .modifier) (its .modifier-in)
 
     pub fields-is : run-on-fields (its .size) executor op s ≡ start (captures change s mets) (stored val mets live)
     fields-is = run-is none ∙ go (eqb (its .modifier) I)
@@ -120,17 +126,24 @@ module _ (its : Registers) where
   pub onward : add (its .size) (its .pc) (or-one (its .size) none) ≡ ahead (its .size) (its .pc) 1
   onward = add-num (its .size) some0 (its .small) (its .pc) 1 (its .pc-in)
 
-  pub to-place : (b : Bool) (to p : ℕ) (o : Option ℕ) → add (its .size) (its .pc) to ≡ p → o ≡ cond b (some to) none → add (its .size) (its .pc) (or-one (its .size) o) ≡ cond b p (ahead (its .size) (its .pc) 1)
+  pub to-place : (b : Bool) (to p : ℕ) (o : Option ℕ) → add (its .size) (its .pc) to ≡ p → o ≡ cond b (some to) none
+      → add (its .size) (its .pc) (or-one (its .size) o) ≡ cond b p (ahead (its .size) (its .pc) 1)
   to-place b to p o h q = ap (λ (x : Option ℕ). add (its .size) (its .pc) (or-one (its .size) x)) q ∙ go b
     where
       go : (b : Bool) → add (its .size) (its .pc) (or-one (its .size) (cond b (some to) none)) ≡ cond b p (ahead (its .size) (its .pc) 1)
       go true = h
       go false = onward
 
-  pub jumps : add (its .size) (its .pc) (sub (its .size) (its .jump) (its .pc)) ≡ its .jump
+  abbrev pub jump-offset : ℕ
+  jump-offset = sub (its .size) (its .jump) (its .pc)
+
+  pub jumps : add (its .size) (its .pc) jump-offset ≡ its .jump
   jumps = jump-is (its .size) some0 (its .small) (its .pc) (its .jump) (its .pc-in) (its .jump-in)
 
-  pub skips : add (its .size) (its .pc) (offset (its .size) (pos 2)) ≡ ahead (its .size) (its .pc) 2
+  abbrev pub skip-one : ℕ
+  skip-one = offset (its .size) (pos 2)
+
+  pub skips : add (its .size) (its .pc) skip-one ≡ ahead (its .size) (its .pc) 2
   skips = add-num (its .size) some0 (its .small) (its .pc) 2 (its .pc-in)
 
   abbrev pub written : {S : Type 0} → Ran S → List Instruction

@@ -8,7 +8,7 @@ use mathlib.Core.Logic.{inl, inr}
 use mathlib.Core.Option.{Option, none, some}
 use native.Mathlib.Omega.{arith}
 use lib.Dec.{eqb, eqb·suc-zero}
-use lib.ListN.{length, getD, length-set, length-map}
+use lib.ListN.{length, getD, drop, length-set, length-map}
 use borrow.Author.Tests.{eqb-true, leb-false, le-ltb, lt-leb}
 use Rattle.laws.proofs.Every.{_and_, every-or}
 use Rattle.machine.specs.declared.Entry.{Entry}
@@ -17,7 +17,7 @@ use Rattle.machine.specs.State.{Machine, Outcome, accepted, refusal, first}
 use Rattle.machine.specs.Queue.{entry, slots, entries, front, nameOf, full, pop, push, started}
 use Rattle.machine.specs.Execution.{Ending, dat, divisor, Next, ends, goes, splits}
 use Rattle.machine.specs.Step.{popped, pc, instruction, effect, coreAfter, counted, queued, nextTold, executed, stepChecks, step}
-use Rattle.machine.proofs.Checks.{passes, number-of, other, Without, without}
+use Rattle.machine.proofs.Checks.{passes, number-of, other, others, without}
 use Rattle.machine.proofs.Names.{Held}
 use Rattle.machine.proofs.Soundness.{SoundHeader, size-small, push-sound}
 use Rattle.machine.proofs.Bounds.{Bounded}
@@ -187,18 +187,7 @@ module _ (m : Machine) (n v : ℕ) (e : first (stepChecks m) ≡ refusal n v) (a
     where
       go : (b : Bool) → eqb (m .header .length) 0 ≡ b → m .header .length ≡ 0
       go true q = eqb-true _ _ q
-      go false q = absurd (without 7 (stepChecks m) rows n v e is-seven)
-        where
-          rows : Without 7 (stepChecks m)
-          rows =
-              inr (other tt)
-              and λ x. inl q
-              and λ x. inr (other tt)
-              and λ x. inr (other tt)
-              and λ x. inr (other tt)
-              and λ x. inr (other tt)
-              and λ x. inr (other tt)
-              and λ x. tt
+      go false q = absurd (without 7 (stepChecks m) (inr (other tt) and λ x. inl q and λ y. others 7 (drop 2 (stepChecks m)) refl) n v e is-seven)
 
 nothing-popped : (m : Machine) (c : Core) → Same m c → m .header .length ≡ 0 → Rust.step c ≡ record { core = c; answer = Err NoRemainingProcesses }
 unfolding Rust.step entries
