@@ -1,9 +1,9 @@
 -- Cores of words as cores of cells, and pointers folded by a limit of M as places.
 -- Assumes nothing.
-use Prim.Native.Nat.{ℕ, zero, suc, _+_, _-_, _/_, _%_, _<_}
+use Prim.Native.Nat.{ℕ, _+_, _-_, _/_, _%_, _<_}
 use mathlib.Core.Path.{_≡_, refl, sym, ap, _∙_}
 use mathlib.Core.Bool.{Bool, true, false, cond}
-use mathlib.Core.List.{List, [], _∷_, map}
+use mathlib.Core.List.{List, map}
 use native.Mathlib.Nat.{mod-add-mod, add-mod-mod, add-assoc}
 use native.Mathlib.Omega.{arith}
 use lib.Dec.{eqb, ltb}

@@ -3,7 +3,7 @@
 use Prim.Native.Nat.{ℕ, _<_}
 use mathlib.Core.Path.{_≡_, refl, sym, ap, _∙_, fun-ext}
 use mathlib.Core.Bool.{Bool, true, false, not, _&&_, and-true, and-comm, Bool·not-not}
-use mathlib.Core.List.{List, [], map}
+use mathlib.Core.List.{List}
 use mathlib.Core.Option.{some}
 use lib.ListN.{length, getD, set}
 use lib.Seq.{getD-set-same, set-set}
@@ -11,8 +11,8 @@ use Rattle.laws.specs.Lists.{every}
 use Rattle.laws.proofs.Numbers.{below}
 use Rattle.laws.proofs.Every.{_and_}
 use Rattle.load_file.specs.declared.Cell.{Cell}
-use Rattle.load_file.specs.Types.{Field, A, B, pairs}
-use Rattle.load_file.specs.Cells.{number, withNumber}
+use Rattle.load_file.specs.Types.{Field, A, B}
+use Rattle.load_file.specs.Cells.{withNumber}
 use Rattle.load_file.proofs.Words.{InRange, with-range}
 use Rattle.machine.specs.Execution.{stored}
 use Rattle.machine.proofs.Execution.{row}

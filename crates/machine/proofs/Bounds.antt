@@ -32,10 +32,13 @@ pub record Bounded (h : Header) : Type 0 where
 pub blank-bounded : (size : ℕ) → Bounded (blank size)
 blank-bounded size = record { steps = omega arith; threads = every-replicate (λ k. k ≤ 4294967295) 16 0 (omega arith) }
 
--- a next thread number that is not the greatest is below it
+-- a next thread number at an index; one that is not the greatest is below it
+pub thread-most : (h : Header) (i : ℕ) → Bounded h → getD (h .threads) i 0 ≤ 4294967295
+thread-most h i b = every-or (λ k. k ≤ 4294967295) (h .threads) i 0 (b .threads) (omega arith)
+
 thread-below : (h : Header) (i : ℕ) → Bounded h → eqb (getD (h .threads) i 0) 4294967295 ≡ false → getD (h .threads) i 0 < 4294967295
 thread-below h i b e =
-    let l : getD (h .threads) i 0 ≤ 4294967295 = every-or (λ k. k ≤ 4294967295) (h .threads) i 0 (b .threads) (omega arith) in
+    let l = thread-most h i b in
     let n : getD (h .threads) i 0 ≡ 4294967295 → ⊥ = eqb-false _ _ e in
     omega arith
 

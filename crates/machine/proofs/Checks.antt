@@ -2,11 +2,11 @@
 -- Assumes nothing.
 use Prim.Native.Nat.{ℕ}
 use mathlib.Core.Path.{_≡_, refl, sym, ap, subst, _∙_}
-use mathlib.Core.Bool.{Bool, true, false, cond, not, true≢false, false≢true}
+use mathlib.Core.Bool.{Bool, true, false, cond, not, _||_, true≢false, false≢true}
 use mathlib.Core.List.{List, [], _∷_}
 use mathlib.Core.Logic.{_⊎_, inl, inr}
 use lib.Dec.{T, eqb}
-use borrow.Author.Tests.{eq-eqb, not-true}
+use borrow.Author.Tests.{eqb-true, eq-eqb, not-true}
 use Rattle.laws.specs.Lists.{every}
 use Rattle.laws.proofs.Tests.{both}
 use Rattle.machine.specs.State.{Machine, Outcome, Check, Verdict, accepted, refusal, first, settle}
@@ -45,6 +45,17 @@ number-of P (c ∷ cs) h n v e = go (c .applies) e (number-of P cs (h .1) n v)
     go : (b : Bool) → cond b (refusal (c .number) (c .value)) (first cs) ≡ refusal n v → (first cs ≡ refusal n v → P n) → P n
     go true e r = subst P (ap numberIn e) (h .0)
     go false e r = r e
+
+-- so the number is k where no other row's number passes the test that it passes
+pub only : (p : ℕ → Bool) (k : ℕ) (cs : List Check) → every (λ c. not (p (c .number)) || eqb (c .number) k) cs ≡ true
+    → (n v : ℕ) → first cs ≡ refusal n v → p n ≡ true → n ≡ k
+only p k cs e = number-of (λ n. p n ≡ true → n ≡ k) cs (rows cs e)
+  where
+    rows : (cs : List Check) → every (λ c. not (p (c .number)) || eqb (c .number) k) cs ≡ true → Numbers (λ n. p n ≡ true → n ≡ k) cs
+    rows [] e = tt
+    rows (c ∷ cs) e =
+        let h = both (not (p (c .number)) || eqb (c .number) k) (every (λ c. not (p (c .number)) || eqb (c .number) k) cs) e in
+        (λ t. eqb-true (c .number) k (rw t at (h .0)), rows cs (h .1))
 
 -- two numbers that the test tells apart
 pub other : {k n : ℕ} → T (not (eqb k n)) → k ≡ n → ⊥

@@ -16,7 +16,7 @@ use Rattle.machine.specs.Pointers.{less}
 use Rattle.machine.specs.Execution as Execution
 use Rattle.machine.specs.Execution.{Met, some?, branch, skip, stored, equal}
 use Rattle.reference.specs.Types.{instruction-eq}
-use Rattle.reference.specs.Offset.{offset, add, sub}
+use Rattle.reference.specs.Offset.{offset, add}
 use Rattle.reference.specs.Modifiers.{Ran, run-on-instructions, run-on-fields}
 use Rattle.reference.specs.Opcodes.{sets-if, decrements, unlike, unlike-whole, finished, by-opcode}
 use Rattle.reference.specs.Same.{opcodeOf, instructionOf}

@@ -1,6 +1,6 @@
 -- The domain has battles in it: one of seven calls, by computation, and what the theorem says of it.
 -- Assumes nothing.
-use Prim.Native.Nat.{ℕ, _^_, _-_}
+use Prim.Native.Nat.{_^_, _-_}
 use mathlib.Core.Path.{_≡_, refl}
 use mathlib.Core.List.{List, [], _∷_, _++_}
 use native.Mathlib.Omega.{arith}

@@ -18,7 +18,7 @@ use Rattle.reference.specs.Offset.{add, sub, div, rem}
 use Rattle.reference.specs.Opcodes as Opcodes
 use Rattle.reference.specs.Opcodes.{by-opcode}
 use Rattle.reference.specs.Same.{opcodeOf, instructionOf, wordOf}
-use Rattle.reference.proofs.Offsets.{add-is, sub-is, add-num}
+use Rattle.reference.proofs.Offsets.{add-is, sub-is}
 use Rattle.reference.proofs.Cells.{set-word}
 use Rattle.reference.proofs.Registers.{Matches, cellOf, Registers, live, executor, scene, Does, kept, live-in, onward, jump-offset, jumps, idle, some0}
 use Rattle.reference.proofs.Arithmetic.{sums, moves-done, multiplied, parts, quotient-is, remainder-is}

@@ -2,7 +2,7 @@
 -- Assumes nothing.
 use Prim.Native.Nat.{ℕ, _%_, _^_, _≤_, _<_}
 use mathlib.Core.Path.{_≡_, refl, sym, ap, ap₂, _∙_}
-use mathlib.Core.Bool.{Bool, true, false, cond, false≢true}
+use mathlib.Core.Bool.{Bool, true, false, cond}
 use mathlib.Core.List.{List, [], _∷_, map}
 use mathlib.Core.Logic.{inl, inr}
 use mathlib.Core.Option.{none, some}
@@ -23,7 +23,7 @@ use Rattle.machine.specs.State.{Machine, accepted, refusal, first}
 use Rattle.machine.specs.Names.{slot, registered}
 use Rattle.machine.specs.Queue.{entries}
 use Rattle.machine.specs.Load.{originOf, loaded, loadChecks, load}
-use Rattle.machine.proofs.Checks.{passes, number-of, other, others, without}
+use Rattle.machine.proofs.Checks.{passes, only, other, others, without}
 use Rattle.machine.proofs.Soundness.{size-positive, size-most, size-small}
 use Rattle.machine.proofs.Bounds.{registered-below}
 use Rattle.machine.proofs.Load.{Loadable, loadable, placing, placing-room, placing-sound, placing-held, load-by-cases}
@@ -162,11 +162,7 @@ module _ (m : Machine) (c : Core) (s : SoundMachine m) (same : Same m c) (given 
   -- refused in the domain: the body is too long
   module _ (n v : ℕ) (e : first (loadChecks m given body 0) ≡ refusal n v) (a : answered n ≡ true) where
     is-three : n ≡ 3
-    is-three =
-        number-of (λ k. answered k ≡ true → k ≡ 3) (loadChecks m given body 0) (no and (λ t. refl) and no and no and no and no and tt) n v e a
-      where
-        no : {X : Type 0} → false ≡ true → X
-        no t = absurd (false≢true t)
+    is-three = only answered 3 (loadChecks m given body 0) refl n v e a
 
     is-long : ltb size (instructions body) ≡ true
     is-long = go (ltb size (instructions body)) refl

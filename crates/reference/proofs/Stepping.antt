@@ -1,8 +1,8 @@
 -- One step, of a sound machine and from a same state: to a same state, with the Rust's answer.
 -- Assumes nothing.
-use Prim.Native.Nat.{ℕ, zero, suc, _+_, _^_, _≤_, _<_}
+use Prim.Native.Nat.{ℕ, zero, suc, _+_, _^_, _<_}
 use mathlib.Core.Path.{_≡_, refl, ap, _∙_}
-use mathlib.Core.Bool.{Bool, true, false, _&&_, false≢true}
+use mathlib.Core.Bool.{Bool, true, false, _&&_}
 use mathlib.Core.List.{List, map}
 use mathlib.Core.Logic.{inl, inr}
 use mathlib.Core.Option.{Option, none, some}
@@ -10,17 +10,17 @@ use native.Mathlib.Omega.{arith}
 use lib.Dec.{eqb, eqb·suc-zero}
 use lib.ListN.{length, getD, drop, length-set, length-map}
 use borrow.Author.Tests.{eqb-true, leb-false, le-ltb, lt-leb}
-use Rattle.laws.proofs.Every.{_and_, every-or}
+use Rattle.laws.proofs.Every.{_and_}
 use Rattle.machine.specs.declared.Entry.{Entry}
 use Rattle.machine.specs.declared.Header.{Header}
 use Rattle.machine.specs.State.{Machine, Outcome, accepted, refusal, first}
 use Rattle.machine.specs.Queue.{entry, slots, entries, front, nameOf, full, pop, push, started}
 use Rattle.machine.specs.Execution.{Ending, dat, divisor, Next, ends, goes, splits}
 use Rattle.machine.specs.Step.{popped, pc, instruction, effect, coreAfter, counted, queued, nextTold, executed, stepChecks, step}
-use Rattle.machine.proofs.Checks.{passes, number-of, other, others, without}
+use Rattle.machine.proofs.Checks.{passes, only, other, others, without}
 use Rattle.machine.proofs.Names.{Held}
 use Rattle.machine.proofs.Soundness.{SoundHeader, size-small, push-sound}
-use Rattle.machine.proofs.Bounds.{Bounded}
+use Rattle.machine.proofs.Bounds.{thread-most}
 use Rattle.machine.proofs.Agreement.{Agree, pop-agree, pop-held, push-held, counted-agree, counted-held}
 use Rattle.machine.proofs.Pointers.{fields-at}
 use Rattle.machine.proofs.Execution.{Places}
@@ -51,10 +51,6 @@ alive dat place zero = refl
 alive dat place (suc n) = simp (le-ltb (suc n) 1 (omega arith), eqb·suc-zero n)
 alive divisor place zero = refl
 alive divisor place (suc n) = simp (le-ltb (suc n) 1 (omega arith), eqb·suc-zero n)
-
--- next thread numbers have 32 bits
-thread-fits : (h : Header) → Bounded h → (i : ℕ) → getD (h .threads) i 0 < 2 ^ 32
-thread-fits h b i = let l : getD (h .threads) i 0 ≤ 4294967295 = every-or (λ k. k ≤ 4294967295) (h .threads) i 0 (b .threads) (omega arith) in omega arith
 
 module _ (m : Machine) (c : Core) (s : SoundMachine m) (same : Same m c) (e : first (stepChecks m) ≡ accepted) where
   abbrev h : Header
@@ -131,7 +127,7 @@ module _ (m : Machine) (c : Core) (s : SoundMachine m) (same : Same m c) (e : fi
 
   one-thread : (p : ℕ) → getD (one p .header .threads) (popped m .name) 0 < 2 ^ 32
   unfolding push counted pop
-  one-thread p = thread-fits h (s .numbers) (popped m .name)
+  one-thread p = let l = thread-most h (popped m .name) (s .numbers) in omega arith
 
   two-same : (p y : ℕ) → p < h .size → y < h .size → full m ≡ false
       → Same (started y (popped m .name) (one p)) (with-queue rust (Process.push t y none (rust-one p .process-queue)))
@@ -176,11 +172,7 @@ module _ (m : Machine) (c : Core) (s : SoundMachine m) (same : Same m c) (e : fi
 -- refused in the domain: the queue is empty
 module _ (m : Machine) (n v : ℕ) (e : first (stepChecks m) ≡ refusal n v) (a : answered n ≡ true) where
   is-seven : n ≡ 7
-  is-seven =
-      number-of (λ k. answered k ≡ true → k ≡ 7) (stepChecks m) (no and (λ t. refl) and no and no and no and no and no and tt) n v e a
-    where
-      no : {X : Type 0} → false ≡ true → X
-      no t = absurd (false≢true t)
+  is-seven = only answered 7 (stepChecks m) refl n v e a
 
   is-empty : m .header .length ≡ 0
   is-empty = go (eqb (m .header .length) 0) refl
