@@ -23,7 +23,7 @@ use Rattle.reference.specs.Opcodes.{Ok, Panic, returns, leaves, moves, m
 use Rattle.reference.specs.Same.{opcodeOf, instructionOf, wordOf}
 use Rattle.reference.proofs.Offsets.{offset-pos}
 use Rattle.reference.proofs.Closures.{Any, captures, start, wholeIf, captures-any, captures-same, stored-none, recode, recode-stored}
-use Rattle.reference.proofs.Registers.{Matches, cellOf, Registers, live, mets, executor, scene, Does, run-is, fields-is, onward, written, some0}
+use Rattle.reference.proofs.Registers.{Matches, cellOf, Registers, live, mets, executor, scene, Does, run-is, fields-is, onward, written, positive}
 
 module _ (its : Registers) where
   -- MOV, ADD, SUB: every result is stored to the cell c
@@ -71,7 +71,7 @@ module _ (its : Registers) where
       called : (s : Bool) (a b : ℕ) → s ≡ false → a < its .size → b < its .size → (multiplies (its .size) s a b ≡ record { captured = s; returned = product a b }) × (s ≡ false)
       called s a b e ha hb = (
         ap₂ (λ (t : Bool) (x : ℕ). cond t (leaves true) (returns false x))
-            (ap₂ _||_ e (lt-leb (2 ^ 31) (a * b) (product-fits a b ha hb (its .small)))) (offset-pos (its .size) (some0 its) (its .small) (a * b))
+            (ap₂ _||_ e (lt-leb (2 ^ 31) (a * b) (product-fits a b ha hb (its .small)))) (offset-pos (its .size) (positive its) (its .small) (a * b))
             ∙ ap (λ (t : Bool). record { captured = t; returned = product a b }) (sym e),
         e,
       )
@@ -121,8 +121,8 @@ module _ (its : Registers) where
 
   pub quotient-is : (a b : ℕ) → cond (eqb b 0) none (some (div (its .size) a b)) ≡ quotient (its .size) a b
   quotient-is a zero = refl
-  quotient-is a (suc b) = ap (λ (t : Bool). cond t none (some (div (its .size) a (suc b)))) (eqb·suc-zero b) ∙ ap some (offset-pos (its .size) (some0 its) (its .small) (a / suc b))
+  quotient-is a (suc b) = ap (λ (t : Bool). cond t none (some (div (its .size) a (suc b)))) (eqb·suc-zero b) ∙ ap some (offset-pos (its .size) (positive its) (its .small) (a / suc b))
 
   pub remainder-is : (a b : ℕ) → cond (eqb b 0) none (some (rem (its .size) a b)) ≡ remainder (its .size) a b
   remainder-is a zero = refl
-  remainder-is a (suc b) = ap (λ (t : Bool). cond t none (some (rem (its .size) a (suc b)))) (eqb·suc-zero b) ∙ ap some (offset-pos (its .size) (some0 its) (its .small) (a % suc b))
+  remainder-is a (suc b) = ap (λ (t : Bool). cond t none (some (rem (its .size) a (suc b)))) (eqb·suc-zero b) ∙ ap some (offset-pos (its .size) (positive its) (its .small) (a % suc b))

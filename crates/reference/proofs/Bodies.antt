@@ -71,7 +71,7 @@ module _ (a b : ℕ) (ha : a < 8) (hb : b < 8) where
       and tt)
 
 -- a lawful instruction, normalized
-module _ (size : ℕ) (some0 : 0 < size) (small : size ≤ 65536) where
+module _ (size : ℕ) (positive : 0 < size) (small : size ≤ 65536) where
   module _ (x : List ℕ) (h : Lawful x) where
     modifier-is : readModifier (opcodeOf (Program.opcodeOf x)) (modeOf (aModeOf x)) (modeOf (bModeOf x)) (getD x 1 0) ≡ modifierOf (Program.modifierOf x)
     modifier-is = go (eqb (getD x 1 0) unnamed)
@@ -108,7 +108,7 @@ module _ (size : ℕ) (some0 : 0 < size) (small : size ≤ 65536) where
   written-is [] core i h l = refl
   written-is (x ∷ xs) core i h l =
       ap (written-from size (suc i) (map readInstruction xs))
-      (ap (set (map wordOf core) i) (normal x (lawful-fields x (h .0))) ∙ sym (set-word core i (cellOf size x) (in-range _ small (lawful-cell size some0 small x (h .0)))))
+      (ap (set (map wordOf core) i) (normal x (lawful-fields x (h .0))) ∙ sym (set-word core i (cellOf size x) (in-range _ small (lawful-cell size positive small x (h .0)))))
       ∙ written-is xs next (suc i) (h .1) (rw long (omega arith))
       ∙ ap (map wordOf) (sym (ap (λ (n : ℕ). placed next (ahead n i 1) (words xs)) (sym long)
       ∙ same-index (words xs) next i (rw (long, length-map xs (λ x. packed (cellOf size x))) (omega arith))))

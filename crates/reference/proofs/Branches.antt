@@ -23,7 +23,7 @@ use Rattle.reference.specs.Same.{opcodeOf, instructionOf}
 use Rattle.reference.proofs.Offsets.{offset-in, sub-one}
 use Rattle.reference.proofs.Cells.{eq-words}
 use Rattle.reference.proofs.Closures.{Any, captures, start, wholeIf, captures-any, never-stored}
-use Rattle.reference.proofs.Registers.{Registers, live, mets, executor, scene, Does, live-in, run-is, fields-is, to-place, jump-offset, jumps, skip-one, skips, written, some0}
+use Rattle.reference.proofs.Registers.{Registers, live, mets, executor, scene, Does, live-in, run-is, fields-is, to-place, jump-offset, jumps, skip-one, skips, written, positive}
 
 module _ (its : Registers) where
   -- a test of the pairs that stores nothing
@@ -41,7 +41,7 @@ module _ (its : Registers) where
       record { core = ap (written its) q; next = (r .captured, refl, to-place its b to p (r .captured) h (ap (λ (r : Ran (Option ℕ)). r .captured) q)) }
 
   zero-is : offset (its .size) (pos 0) ≡ 0
-  zero-is = offset-in (its .size) (some0 its) (its .small) 0 (some0 its)
+  zero-is = offset-in (its .size) (positive its) (its .small) 0 (positive its)
 
   -- twice not is as it was
   plainly : (p : ℕ → ℕ → Bool) → every (λ x. not (not (p (x .a) (x .b)))) (mets its) ≡ every (λ x. p (x .a) (x .b)) (mets its)
@@ -100,7 +100,7 @@ module _ (its : Registers) where
           → decrements (its .size) (offset (its .size) (pos 0)) (jump-offset its) s a b ≡ record { captured = change s a b; returned = Execution.lowered (its .size) a b }
       called s a b h =
           ap₂ (λ (d z : ℕ). record { captured = cond (not (eqb d z)) (some (jump-offset its)) s; returned = some d })
-          (sub-one (its .size) (some0 its) (its .small) b h) zero-is
+          (sub-one (its .size) (positive its) (its .small) b h) zero-is
 
       ran : run-on-fields (its .size) (executor its) (decrements (its .size) (offset (its .size) (pos 0)) (jump-offset its)) none
           ≡ start (captures change none (mets its)) (stored (Execution.lowered (its .size)) (mets its) (live its))

@@ -20,7 +20,7 @@ use Rattle.reference.specs.Opcodes.{by-opcode}
 use Rattle.reference.specs.Same.{opcodeOf, instructionOf, wordOf}
 use Rattle.reference.proofs.Offsets.{add-is, sub-is}
 use Rattle.reference.proofs.Cells.{set-word}
-use Rattle.reference.proofs.Registers.{Matches, cellOf, Registers, live, executor, scene, Does, kept, live-in, onward, jump-offset, jumps, idle, some0}
+use Rattle.reference.proofs.Registers.{Matches, cellOf, Registers, live, executor, scene, Does, kept, live-in, onward, jump-offset, jumps, idle, positive}
 use Rattle.reference.proofs.Arithmetic.{sums, moves-done, multiplied, parts, quotient-is, remainder-is}
 use Rattle.reference.proofs.Branches.{zeroes, nonzeroes, counts, equals, differs, lesser}
 
@@ -36,8 +36,8 @@ module _ (its : Registers) where
       below _ 17
       (idle its _ (ends dat) refl
       and moves-done its
-      and sums its (add (its .size)) (λ m a b. ahead m a b) (λ a b ha hb. add-is (its .size) (some0 its) (its .small) a b ha hb)
-      and sums its (λ a b. sub (its .size) b a) (λ m a b. ahead m b (m - a)) (λ a b ha hb. sub-is (its .size) (some0 its) (its .small) b a hb (omega arith))
+      and sums its (add (its .size)) (λ m a b. ahead m a b) (λ a b ha hb. add-is (its .size) (positive its) (its .small) a b ha hb)
+      and sums its (λ a b. sub (its .size) b a) (λ m a b. ahead m b (m - a)) (λ a b ha hb. sub-is (its .size) (positive its) (its .small) b a hb (omega arith))
       and multiplied its
       and parts its (div (its .size)) quotient (quotient-is its)
       and parts its (rem (its .size)) remainder (remainder-is its)

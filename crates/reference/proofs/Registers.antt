@@ -85,8 +85,8 @@ module _ (its : Registers) where
     pub core : x .core ≡ set (map wordOf (its .core)) (its .target) (instructionOf (cellOf (f .cell) live))
     pub next : Matches (its .size) (its .pc) (f .next) (x .result)
 
-  pub some0 : 0 < its .size
-  some0 = omega (arith, its .pc-in)
+  pub positive : 0 < its .size
+  positive = omega (arith, its .pc-in)
 
   target-is : get-offset (map wordOf (its .core)) (its .target) ≡ instructionOf live
   target-is = get-word (its .core) (its .target) (rw (its .sound .length) (its .target-in))
@@ -99,7 +99,7 @@ module _ (its : Registers) where
 
   -- a register's number is its own offset
   reduced : {n : ℕ} → n < its .size → offset (its .size) (pos n) ≡ n
-  reduced {n} h = offset-in (its .size) some0 (its .small) n h
+  reduced {n} h = offset-in (its .size) positive (its .small) n h
 
   -- the closures run
   module _ {S : Type 0} (op : S → ℕ → ℕ → Called S ℕ) (change : S → ℕ → ℕ → S) (val : ℕ → ℕ → Option ℕ) (Such : S → Type 0)
@@ -124,7 +124,7 @@ module _ (its : Registers) where
 
   -- places
   pub onward : add (its .size) (its .pc) (or-one (its .size) none) ≡ ahead (its .size) (its .pc) 1
-  onward = add-num (its .size) some0 (its .small) (its .pc) 1 (its .pc-in)
+  onward = add-num (its .size) positive (its .small) (its .pc) 1 (its .pc-in)
 
   pub to-place : (b : Bool) (to p : ℕ) (o : Option ℕ) → add (its .size) (its .pc) to ≡ p → o ≡ cond b (some to) none
       → add (its .size) (its .pc) (or-one (its .size) o) ≡ cond b p (ahead (its .size) (its .pc) 1)
@@ -138,13 +138,13 @@ module _ (its : Registers) where
   jump-offset = sub (its .size) (its .jump) (its .pc)
 
   pub jumps : add (its .size) (its .pc) jump-offset ≡ its .jump
-  jumps = jump-is (its .size) some0 (its .small) (its .pc) (its .jump) (its .pc-in) (its .jump-in)
+  jumps = jump-is (its .size) positive (its .small) (its .pc) (its .jump) (its .pc-in) (its .jump-in)
 
   abbrev pub skip-one : ℕ
   skip-one = offset (its .size) (pos 2)
 
   pub skips : add (its .size) (its .pc) skip-one ≡ ahead (its .size) (its .pc) 2
-  skips = add-num (its .size) some0 (its .small) (its .pc) 2 (its .pc-in)
+  skips = add-num (its .size) positive (its .small) (its .pc) 2 (its .pc-in)
 
   abbrev pub written : {S : Type 0} → Ran S → List Instruction
   written r = set (map wordOf (its .core)) (its .target) (r .b-target)

@@ -69,18 +69,18 @@ module _ (m : Machine) (c : Core) (s : SoundMachine m) (same : Same m c) (e : fi
   opcode-in =
       not-last (instruction m .opcode) (fields-at (h .size) (m .core) (s .core) (pc m) pc-in .opcode) (passes (stepChecks m) e .1 .1 .1 .1 .1 .0)
 
-  abbrev X : Execution
-  X = execute (h .size) (map wordOf (m .core)) (pc m)
+  abbrev execution : Execution
+  execution = execute (h .size) (map wordOf (m .core)) (pc m)
 
   -- popped, the step counted, the instruction executed
   abbrev rust : Core
-  rust = record { instructions = X .core; process-queue = left m c same r; steps-taken = c .steps-taken + 1 }
+  rust = record { instructions = execution .core; process-queue = left m c same r; steps-taken = c .steps-taken + 1 }
 
   counting-same : Same (counting m) rust
   unfolding coreAfter effect
-  counting-same = counted-same m c same r (coreAfter m) (X .core) (execute-is m s pc-in opcode-in .core)
+  counting-same = counted-same m c same r (coreAfter m) (execution .core) (execute-is m s pc-in opcode-in .core)
 
-  step-is : Rust.step c ≡ after (h .size) (X .result) (entryOf h (front m)) rust
+  step-is : Rust.step c ≡ after (h .size) (execution .result) (entryOf h (front m)) rust
   unfolding Rust.step
   step-is =
       ap (stepped c) (pop-is m c same r)
@@ -166,7 +166,7 @@ module _ (m : Machine) (c : Core) (s : SoundMachine m) (same : Same m c) (e : fi
   unfolding executed
   executed-agrees f =
       rw step-is
-      (let a = finish (effect m .next) (X .result) (execute-is m s pc-in opcode-in .next) (next-places m (s .core) pc-in) f in
+      (let a = finish (effect m .next) (execution .result) (execute-is m s pc-in opcode-in .next) (next-places m (s .core) pc-in) f in
       record { answer = a .answer; same = a .same })
 
 -- refused in the domain: the queue is empty

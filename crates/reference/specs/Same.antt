@@ -72,7 +72,7 @@ pub record Same (m : Machine) (c : Core) : Type 0 where
   pub next-thread-id : c .process-queue .next-thread-id ≡ pairs (names (m .header)) (m .header .threads)
   pub steps-taken : c .steps-taken ≡ m .header .steps
 
--- an instruction of a body: its codes by their names, its modifier or the Rust's default, its numbers as they are
+-- an instruction of a body: its codes by their names, its modifier or the Rust's default (F where there is none: 01 answers 4), its numbers as they are
 abbrev pub or-f : Option Modifier → Modifier
 or-f none = F
 or-f (some x) = x
