@@ -1,4 +1,4 @@
--- address.rs.
+-- address.rs: a pointer resolved, and its effects before and after.
 -- Assumes nothing. An index is an Offset of this core, so it is below its length.
 use Prim.Native.Nat.{ℕ}
 use mathlib.Core.List.{List}

@@ -1,4 +1,4 @@
--- core.rs.
+-- core.rs: the core, load_warrior, step and run.
 -- Assumes nothing.
 use Prim.Native.Nat.{ℕ, zero, suc, _+_, _-_, _^_}
 use mathlib.Core.Bool.{Bool, true, false, cond}

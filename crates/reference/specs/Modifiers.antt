@@ -1,4 +1,4 @@
--- modifier.rs.
+-- modifier.rs: the executor with both operands evaluated, and closures run on its registers by modifier.
 -- Assumes nothing.
 use Prim.Native.Nat.{ℕ}
 use mathlib.Core.List.{List}

@@ -1,4 +1,4 @@
--- opcode.rs.
+-- opcode.rs: the closures of each opcode, and one instruction executed.
 -- Assumes nothing.
 use Prim.Native.Nat.{ℕ, _*_, _^_}
 use mathlib.Core.Bool.{Bool, true, false, cond, not, _||_}

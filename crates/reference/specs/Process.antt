@@ -1,4 +1,4 @@
--- process.rs.
+-- process.rs: the queue of entries, the processes and next thread numbers by name, pop and push.
 -- Assumes nothing. A map is the list of its keys and values, a new key last: the order in which the Rust's map keeps them is never looked at.
 use Prim.Native.Nat.{ℕ, _+_, _-_}
 use mathlib.Core.Bool.{cond}

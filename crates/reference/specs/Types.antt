@@ -1,4 +1,4 @@
--- The Rust's values: types.rs, load_file.rs, program.rs, metadata.rs.
+-- types.rs, load_file.rs, program.rs, metadata.rs: codes, fields, instructions, the default modifier, what of a warrior is loaded.
 -- Assumes nothing. A Value is its literal: what has a label is not loaded.
 use Prim.Native.Nat.{ℕ}
 use mathlib.Core.Bool.{Bool, false, cond, _&&_}
