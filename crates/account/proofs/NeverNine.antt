@@ -11,7 +11,7 @@ use Rattle.machine.proofs.SoundMachine.{SoundMachine, fresh-sound, load-keeps, 
 use Rattle.machine.proofs.NotNine.{load-not-nine, step-not-nine, run-not-nine, read-done}
 use Rattle.account.specs.Calls.{Call, Load, Step, Run, outcome, left}
 
-call-sound : (c : Call) (m : Machine) → SoundMachine m → SoundMachine (outcome c m .machine)
+pub call-sound : (c : Call) (m : Machine) → SoundMachine m → SoundMachine (outcome c m .machine)
 call-sound (Load name body origin place) m s = load-keeps m name body origin place s
 call-sound Step m s = step-keeps m s
 call-sound (Run c) m s = run-keeps-sound c m s

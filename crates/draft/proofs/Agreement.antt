@@ -7,14 +7,13 @@ use mathlib.Core.List.{List, [], _∷_, _++_, map}
 use native.Mathlib.Nat.{mod-lt}
 use native.Mathlib.Omega.{arith}
 use lib.Dec.{eqb, leb}
-use borrow.Author.Tests.{eqb-true, eqb-false, leb-true, ltb-true, not-false}
+use borrow.Author.Tests.{eqb-true, leb-true, ltb-true, not-false}
 use lib.ListN.{length, getD, take, drop}
 use lib.Seq.{take-all}
 use Rattle.laws.specs.Lists.{among}
 use Rattle.laws.proofs.Tests.{both, neither, holds}
 use Rattle.laws.proofs.Every.{every-weaker}
 use Rattle.load_file.specs.declared.Cell.{Cell}
-use Rattle.load_file.specs.Opcode.{LDP, STP}
 use Rattle.load_file.specs.Mode.{PostIncIndirectA, PostIncIndirectB}
 use Rattle.load_file.specs.Cells.{unpacked, soundWord}
 use Rattle.load_file.proofs.Soundness.{Sound, sound-fields}
@@ -27,7 +26,7 @@ use Rattle.machine.specs.Step.{pc, popped, instruction, operandA, operandB, eff
 use Rattle.machine.proofs.Checks.{passes}
 use Rattle.machine.proofs.Queue.{entries-pop}
 use Rattle.machine.proofs.Soundness.{sound-entry}
-use Rattle.machine.proofs.Step.{step-by-cases, step-executed, nonzero, counting}
+use Rattle.machine.proofs.Step.{not-last, step-by-cases, step-executed, nonzero, counting}
 use Rattle.draft.specs.Evaluation.{modes, immediate, evaluate}
 use Rattle.draft.specs.Draft.{State, Done, modifiers, I, execute, opcodes, NOP, obey}
 use Rattle.draft.specs.Draft
@@ -49,13 +48,6 @@ record Facts (m : Machine) : Type 0 where
   there : pc m < m .header .size
   sound : Sound (m .header .size) (instruction m)
   opcode : instruction m .opcode < 17
-
--- LDP and STP are the last two
-not-last : (op : ℕ) → op ≤ 18 → among (LDP ∷ STP ∷ []) op ≡ false → op < 17
-not-last op h e =
-    let l = neither (eqb op 17) (eqb op 18 || false) e in
-    let s = neither (eqb op 18) false (l .1) in
-    omega (arith, h, eqb-false op 17 (l .0), eqb-false op 18 (s .0))
 
 facts : (m : Machine) → first (stepChecks m) ≡ accepted → Facts m
 unfolding soundHeader

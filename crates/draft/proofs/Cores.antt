@@ -1,38 +1,26 @@
 -- Cores of words as cores of cells, and pointers folded by a limit of M as places.
 -- Assumes nothing.
-use Prim.Native.Nat.{ℕ, zero, suc, _+_, _-_, _/_, _%_, _<_}
+use Prim.Native.Nat.{ℕ, _+_, _-_, _/_, _%_, _<_}
 use mathlib.Core.Path.{_≡_, refl, sym, ap, _∙_}
 use mathlib.Core.Bool.{Bool, true, false, cond}
-use mathlib.Core.List.{List, [], _∷_, map}
+use mathlib.Core.List.{List, map}
 use native.Mathlib.Nat.{mod-add-mod, add-mod-mod, add-assoc}
 use native.Mathlib.Omega.{arith}
 use lib.Dec.{eqb, ltb}
 use borrow.Author.Tests.{eqb-true, eqb-false}
 use lib.ListN.{length, getD, set, List·getD-map}
-use lib.Seq.{getD-set-same, getD-set-other}
+use Rattle.laws.proofs.Lists.{map-set}
 use Rattle.load_file.specs.declared.Cell.{Cell}
 use Rattle.load_file.specs.Types.{Field, A, B}
 use Rattle.load_file.specs.Cells.{packed, unpacked, number, withNumber}
-use Rattle.load_file.proofs.Words.{InRange, unpack-pack}
+use Rattle.load_file.proofs.Words.{InRange, word-range, with-range, unpack-pack}
 use Rattle.machine.specs.Pointers.{changed}
+use Rattle.machine.proofs.Pointers.{changed-same, changed-other}
 use Rattle.draft.specs.Evaluation.{Fold, at, assign}
-
--- a word's cell is in range, and stays so with a number that is
-pub word-range : (w : ℕ) → InRange (unpacked w)
-word-range w = record { opcode = omega arith; modifier = omega arith; a-mode = omega arith; b-mode = omega arith; a = omega arith; b = omega arith }
-
-pub with-range : (f : Field) (x : ℕ) (c : Cell) → x < 65536 → InRange c → InRange (withNumber f x c)
-with-range A x c h r = record { opcode = r .opcode; modifier = r .modifier; a-mode = r .a-mode; b-mode = r .b-mode; a = h; b = r .b }
-with-range B x c h r = record { opcode = r .opcode; modifier = r .modifier; a-mode = r .a-mode; b-mode = r .b-mode; a = r .a; b = h }
-
-map-set : (core : List ℕ) (p w : ℕ) → map unpacked (set core p w) ≡ set (map unpacked core) p (unpacked w)
-map-set [] p w = refl
-map-set (x ∷ xs) zero w = refl
-map-set (x ∷ xs) (suc p) w = ap (λ l. unpacked x ∷ l) (map-set xs p w)
 
 -- a cell stored
 pub stores : (core : List ℕ) (p : ℕ) {c : Cell} → InRange c → map unpacked (set core p (packed c)) ≡ set (map unpacked core) p c
-stores core p {c} r = map-set core p (packed c) ∙ ap (set (map unpacked core) p) (unpack-pack c r)
+stores core p {c} r = map-set unpacked core p (packed c) ∙ ap (set (map unpacked core) p) (unpack-pack c r)
 
 -- a cell read
 pub reads : (core : List ℕ) (p : ℕ) → at (map unpacked core) p ≡ unpacked (getD core p 0)
@@ -60,16 +48,7 @@ place-through PC n x M =
     place-direct PC (Fold n M M + x) M ∙ ap (λ (k : ℕ). k % M) (sym (add-assoc PC (Fold n M M) x)) ∙ sym (mod-add-mod (PC + Fold n M M) M x)
     ∙ ap (λ (k : ℕ). (k + x) % M) (place-direct PC n M)
 
--- reading after a change
-pub changed-same : (f : Field) (core : List ℕ) (p x : ℕ) → p < length core → x < 65536
-    → unpacked (getD (changed core p f x) p 0) ≡ withNumber f x (unpacked (getD core p 0))
-changed-same f core p x l h =
-    ap unpacked (getD-set-same core p (packed (withNumber f x (unpacked (getD core p 0)))) 0 l)
-    ∙ unpack-pack (withNumber f x (unpacked (getD core p 0))) (with-range f x _ h (word-range (getD core p 0)))
-
-pub changed-other : (f : Field) (core : List ℕ) (p q x : ℕ) → (q ≡ p → ⊥) → unpacked (getD (changed core p f x) q 0) ≡ unpacked (getD core q 0)
-changed-other f core p q x h = ap unpacked (getD-set-other core p q (packed (withNumber f x (unpacked (getD core p 0)))) 0 h)
-
+-- the number put in a field
 pub number-with : (f : Field) (x : ℕ) (c : Cell) → number f (withNumber f x c) ≡ x
 number-with A x c = refl
 number-with B x c = refl

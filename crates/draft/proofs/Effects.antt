@@ -12,22 +12,23 @@ use borrow.Author.Tests.{eqb-true, eqb-false, not-false}
 use lib.ListN.{length, getD, set, length-map}
 use Rattle.laws.specs.Lists.{among}
 use Rattle.laws.proofs.Tests.{both, neither}
+use Rattle.laws.proofs.Numbers.{below}
 use Rattle.laws.proofs.Every.{_and_}
 use Rattle.load_file.specs.declared.Cell.{Cell}
 use Rattle.load_file.specs.Offset.{ahead}
 use Rattle.load_file.specs.Opcode.{MOV, DIV, MOD, JMZ, DJN, CMP, SEQ, SNE}
 use Rattle.load_file.specs.Modifier as modifier
 use Rattle.load_file.specs.Cells.{packed, unpacked}
-use Rattle.load_file.proofs.Words.{InRange, cell-ext}
+use Rattle.load_file.proofs.Words.{InRange, word-range, cell-ext}
 use Rattle.machine.specs.Pointers.{less}
 use Rattle.machine.specs.Execution.{Next, ends, goes, splits, Scene, Effect, copied, computes, stored, equal, effectOf}
 use Rattle.machine.specs.Instruction.{storeTo}
+use Rattle.machine.proofs.Execution.{row, row-computes}
 use Rattle.draft.specs.Draft.{modifiers, I, opcodes, NOP, State, Done, compute, test, execute, move, arithmetic, decrementJump, jumps, skip}
 use Rattle.draft.specs.Draft
 use Rattle.draft.specs.Departures.{twins}
-use Rattle.draft.proofs.Numbers.{below}
-use Rattle.draft.proofs.Cores.{word-range, stores, reads}
-use Rattle.draft.proofs.Rows.{row, row-stored, row-range, row-test, row-some, row-lone, row-computes}
+use Rattle.draft.proofs.Cores.{stores, reads}
+use Rattle.draft.proofs.Rows.{row-stored, row-range, row-test, row-some, row-lone}
 use Rattle.draft.proofs.Whole.{row-equal}
 
 -- the places to go on at, in order

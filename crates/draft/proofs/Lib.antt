@@ -1,4 +1,3 @@
-pub mod Numbers
 pub mod Cores
 pub mod Operands
 pub mod Rows

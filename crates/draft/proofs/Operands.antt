@@ -10,6 +10,7 @@ use lib.Dec.{eqb, ltb}
 use borrow.Author.Tests.{eqb-false, ltb-true, ltb-false}
 use lib.ListN.{length, getD}
 use Rattle.laws.specs.Lists.{among}
+use Rattle.laws.proofs.Numbers.{below}
 use Rattle.laws.proofs.Every.{_and_}
 use Rattle.load_file.specs.declared.Cell.{Cell}
 use Rattle.load_file.specs.Offset.{ahead}
@@ -17,13 +18,12 @@ use Rattle.load_file.specs.Types.{Field, A, B}
 use Rattle.load_file.specs.Mode.{PreDecIndirectB, PostIncIndirectA, PostIncIndirectB}
 use Rattle.load_file.specs.Cells.{unpacked, number}
 use Rattle.load_file.proofs.Offsets.{ahead-lt}
-use Rattle.load_file.proofs.Words.{InRange}
+use Rattle.load_file.proofs.Words.{InRange, word-range}
 use Rattle.machine.specs.Pointers.{changed, less, more, operand}
-use Rattle.machine.proofs.Pointers.{length-operand}
+use Rattle.machine.proofs.Pointers.{length-operand, changed-same, changed-other}
 use Rattle.draft.specs.Evaluation.{Operand, Fold, at, assign, modes, immediate, direct, indirect, predecrement, postincrement, decrement, evaluate, through}
 use Rattle.draft.specs.Comparison.{unlimited}
-use Rattle.draft.proofs.Numbers.{below}
-use Rattle.draft.proofs.Cores.{word-range, reads, changes, place-direct, place-through, changed-same, changed-other, changed-b, number-with}
+use Rattle.draft.proofs.Cores.{reads, changes, place-direct, place-through, changed-b, number-with}
 
 -- less than once round, a place is not met again
 apart : (i n l : ℕ) → i < l → n < l → (n ≡ 0 → ⊥) → i ≡ ahead l i n → ⊥

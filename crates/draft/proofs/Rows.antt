@@ -3,26 +3,21 @@
 use Prim.Native.Nat.{ℕ, _<_}
 use mathlib.Core.Path.{_≡_, refl, sym, ap, _∙_, fun-ext}
 use mathlib.Core.Bool.{Bool, true, false, not, _&&_, and-true, and-comm, Bool·not-not}
-use mathlib.Core.List.{List, [], map}
+use mathlib.Core.List.{List}
 use mathlib.Core.Option.{some}
 use lib.ListN.{length, getD, set}
 use lib.Seq.{getD-set-same, set-set}
 use Rattle.laws.specs.Lists.{every}
+use Rattle.laws.proofs.Numbers.{below}
 use Rattle.laws.proofs.Every.{_and_}
 use Rattle.load_file.specs.declared.Cell.{Cell}
-use Rattle.load_file.specs.Offset.{ahead}
-use Rattle.load_file.specs.Types.{Field, A, B, pairs}
-use Rattle.load_file.specs.Cells.{number, withNumber}
-use Rattle.load_file.proofs.Words.{InRange}
-use Rattle.machine.specs.Execution.{Met, goes, stored, computes}
+use Rattle.load_file.specs.Types.{Field, A, B}
+use Rattle.load_file.specs.Cells.{withNumber}
+use Rattle.load_file.proofs.Words.{InRange, with-range}
+use Rattle.machine.specs.Execution.{stored}
+use Rattle.machine.proofs.Execution.{row}
 use Rattle.draft.specs.Evaluation.{at, assign}
 use Rattle.draft.specs.Draft.{modifiers, I, compute, test}
-use Rattle.draft.proofs.Numbers.{below}
-use Rattle.draft.proofs.Cores.{with-range}
-
--- a, b and the target of each pair
-abbrev pub row : ℕ → Cell → Cell → List Met
-row k ra rb = map (λ p. record { a = number (p .from) ra; b = number (p .to) rb; target = p .to }) (getD pairs k [])
 
 -- two numbers of one cell assigned, one after the other
 twice : (f : Field) (cs : List Cell) (t y : ℕ) (c : Cell) → t < length cs → assign f (set cs t c) t y ≡ set cs t (withNumber f y c)
@@ -93,9 +88,3 @@ module _ (ra rb : Cell) where
       lone : (b : Bool) → not (not b && true) ≡ b
       lone true = refl
       lone false = refl
-
--- a result for each pair: all are stored, and the process goes on
-pub row-computes : (v : ℕ → ℕ → ℕ → ℕ) (M pc jump : ℕ) (ra rb live c : Cell) (k : ℕ) → k < 7
-    → computes (record { size = M; modifier = k; pc = pc; jump = jump; ra = ra; rb = rb; live = live }) (λ size a b. some (v size a b)) c
-    ≡ record { cell = some (stored (λ a b. some (v M a b)) (row k ra rb) c); next = goes (ahead M pc 1) }
-row-computes v M pc jump ra rb live c = below _ 7 (refl and refl and refl and refl and refl and refl and refl and tt)

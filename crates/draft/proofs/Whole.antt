@@ -8,6 +8,7 @@ use lib.ListN.{getD}
 use borrow.Author.Tests.{eqb-true, eq-eqb}
 use Rattle.laws.specs.Lists.{every}
 use Rattle.laws.proofs.Tests.{both}
+use Rattle.laws.proofs.Numbers.{below}
 use Rattle.laws.proofs.Every.{_and_}
 use Rattle.load_file.specs.declared.Cell.{Cell}
 use Rattle.load_file.specs.Opcode.{CMP, SEQ}
@@ -15,10 +16,10 @@ use Rattle.load_file.specs.Modifier as modifier
 use Rattle.load_file.specs.Cells.{packed, unpacked}
 use Rattle.load_file.proofs.Words.{InRange, cell-ext, unpack-pack}
 use Rattle.machine.specs.Execution.{equal}
+use Rattle.machine.proofs.Execution.{row}
 use Rattle.draft.specs.Draft.{modifiers, I, test, under, oneCode, sameInstruction}
 use Rattle.draft.specs.Departures.{twins}
-use Rattle.draft.proofs.Numbers.{below}
-use Rattle.draft.proofs.Rows.{row, row-test}
+use Rattle.draft.proofs.Rows.{row-test}
 
 iff : (x y : Bool) → (x ≡ true → y ≡ true) → (y ≡ true → x ≡ true) → x ≡ y
 iff true true f g = refl

@@ -5,10 +5,10 @@ use mathlib.Core.Bool.{Bool, true, false, cond, not, _&&_, _||_}
 use mathlib.Core.Logic.{_⊎_, inl, inr, ⊎-elim}
 use mathlib.Core.List.{List, [], _∷_}
 use mathlib.Core.Option.{Option, none, some}
-use Prim.Native.Nat.{ℕ, zero, suc, _+_, _-_, _*_, _/_, _%_, _^_, _≤_, _<_, zero-le}
-use native.Mathlib.Nat.{add-zero, mod-lt, lt-of-le-of-lt, le-of-lt, div-le-self, mod-le, mod-add-mod, mul-le-mul-left, mul-lt-mul-of-pos-right, eq-or-lt-of-le}
+use Prim.Native.Nat.{ℕ, zero, suc, _+_, _-_, _*_, _/_, _%_, _≤_, _<_, zero-le}
+use native.Mathlib.Nat.{add-zero, mod-lt, lt-of-le-of-lt, div-le-self, mod-le, mod-add-mod, eq-or-lt-of-le}
 use native.Mathlib.Omega.{arith}
-use lib.Dec.{eqb, ltb, lit<}
+use lib.Dec.{eqb, ltb}
 use lib.ListN.{getD, set, List·getD-eq-default}
 use borrow.Author.Tests.{ne-eqb}
 use Rattle.laws.specs.Lists.{every}
@@ -21,7 +21,7 @@ use Rattle.load_file.specs.declared.types.Pairs.{Pairs}
 use Rattle.load_file.specs.Offset.{ahead}
 use Rattle.load_file.specs.Types.{Field, A, B, pairsOf}
 use Rattle.load_file.specs.Cells.{packed, unpacked, soundWord, number, withNumber, relative}
-use Rattle.load_file.proofs.Words.{InRange, unpack-pack}
+use Rattle.load_file.proofs.Words.{InRange, word-range, with-range, unpack-pack}
 use Rattle.machine.specs.Execution as machine
 use Rattle.machine.specs.Execution.{Scene, Effect, ends, goes, divisor, mets, some?, computes, stored, put, isNone, effects, effectOf}
 use Rattle.machine.specs.Pointers.{less}
@@ -32,7 +32,7 @@ use Rattle.execute.specs.declared.modifier.Met.{Met}
 use Rattle.execute.specs.Instruction.{answered}
 use Rattle.execute.specs.Words.{fieldBy, copyOf, Reduced}
 use Rattle.execute.specs.Acts.{metOf, firstOf, lastOf, Below, valueBy, sceneOf, Answers, Does, Set}
-use Rattle.execute.proofs.Cells.{word-range, with-range, number-below, whole}
+use Rattle.execute.proofs.Cells.{number-below, whole}
 
 -- the numbers that the code reads are those that meet
 pub met-is : (k ra rb : ℕ) {p : Pairs} {a1 b1 a2 b2 : Relative} → p ≡ pairsOf k
@@ -114,14 +114,6 @@ met-below size k ra rb p e f g =
 computes-at : (op : ℕ) (s : Scene) → 2 ≤ op → op < 7 → effectOf op s ≡ computes s (valueBy op) (s .live)
 unfolding effectOf
 computes-at op s l h = span op 2 5 l h (λ e. rw e, (λ e. rw e, (λ e. rw e, (λ e. rw e, (λ e. rw e, tt)))))
-
--- the numbers of two sound cells multiply within 32 bits
-pub product-fits : {size : ℕ} (a b : ℕ) → a < size → b < size → size ≤ 46341 → a * b < 2 ^ 32
-product-fits {size} a b ha hb l =
-    lt-of-le-of-lt (mul-le-mul-left a (le-of-lt (small b hb))) (mul-lt-mul-of-pos-right (small a ha) (lit< tt))
-  where
-    small : (x : ℕ) → x < size → x < 2 ^ 16
-    small x h = omega arith
 
 pub positive : {a size : ℕ} → a < size → 0 < size
 positive h = omega arith

@@ -11,7 +11,7 @@ use Rattle.load_file.specs.declared.Cell.{Cell}
 use Rattle.load_file.specs.Offset.{ahead}
 use Rattle.load_file.specs.Types.{Field, A, B}
 use Rattle.load_file.specs.Cells.{packed, unpacked, soundWord, number, withNumber}
-use Rattle.load_file.proofs.Words.{InRange, unpack-pack, pack-unpack}
+use Rattle.load_file.proofs.Words.{word-range, with-range, unpack-pack, pack-unpack}
 use Rattle.load_file.proofs.Soundness.{sound-fields, fields-sound}
 use Rattle.execute.specs.Words.{Reduced, copyOf}
 
@@ -25,14 +25,6 @@ sum-wrap {size} {a} {b} h l g = record { is = mod-wrap g (omega arith); below = 
 -- what lies ahead of a place of the core is one
 pub ahead-below : {size k : ℕ} (a b : ℕ) → k < size → ahead size a b < size
 ahead-below {size} {k} a b h = mod-lt (a + b) (omega arith)
-
--- the fields of a word are in range, also with another number
-pub word-range : (w : ℕ) → InRange (unpacked w)
-word-range w = record { opcode = omega arith; modifier = omega arith; a-mode = omega arith; b-mode = omega arith; a = omega arith; b = omega arith }
-
-pub with-range : (f : Field) (n : ℕ) (c : Cell) → n < 65536 → InRange c → InRange (withNumber f n c)
-with-range A n c h r = record { opcode = r .opcode; modifier = r .modifier; a-mode = r .a-mode; b-mode = r .b-mode; a = h; b = r .b }
-with-range B n c h r = record { opcode = r .opcode; modifier = r .modifier; a-mode = r .a-mode; b-mode = r .b-mode; a = r .a; b = h }
 
 -- a number stored, and then another
 pub stored-both : (f g : Field) (x y w u v : ℕ) → x < 65536 → u ≡ packed (withNumber f x (unpacked w)) → v ≡ packed (withNumber g y (unpacked u))

@@ -14,12 +14,12 @@ use Rattle.laws.proofs.Tests.{both}
 use Rattle.load_file.specs.Offset.{ahead}
 use Rattle.load_file.specs.Types.{Field, A}
 use Rattle.load_file.specs.Cells.{packed, unpacked, soundWord, number, withNumber}
-use Rattle.load_file.proofs.Words.{unpack-pack}
+use Rattle.load_file.proofs.Words.{unpack-pack, word-range}
 use Rattle.machine.specs.Pointers.{Reach, here, there, through, Turn, keeps, lowers, raises, reaches, turns, fieldOf, less, more, used, pointerOf, changed, before, after, turnWrites, operand}
 use Rattle.execute.specs.declared.address.Operand.{Operand}
 use Rattle.execute.specs.Words.{fieldBy}
 use Rattle.execute.specs.Operands.{absolute, held, evaluated, refused, operandOf, coreOf, Ready}
-use Rattle.execute.proofs.Cells.{ahead-below, whole, with-sound, word-range}
+use Rattle.execute.proofs.Cells.{ahead-below, whole, with-sound}
 
 -- the modes by range
 pub goes-through : (mode : ℕ) → 2 ≤ mode → mode < 8 → getD reaches mode here ≡ through (fieldBy (mode % 2))

@@ -2,8 +2,8 @@
 -- Assumes nothing.
 use mathlib.Core.Path.{_≡_, refl, sym, ap, _∙_}
 use mathlib.Core.Bool.{Bool, cond}
-use Prim.Native.Nat.{ℕ, zero, suc, _+_, _-_, _*_, _/_, _%_, _<_, _≤_}
-use native.Mathlib.Nat.{mod-lt, zero-lt-suc, div-add-mod', suc-mul, add-suc}
+use Prim.Native.Nat.{ℕ, zero, suc, _+_, _-_, _*_, _/_, _%_, _^_, _<_, _≤_}
+use native.Mathlib.Nat.{mod-lt, zero-lt-suc, div-add-mod', suc-mul, add-suc, mul-le-mul}
 use native.Mathlib.Omega.{arith}
 use lib.Dec.{eqb}
 use lib.IntN.{ℤ, pos, negsuc, negℤ, _+ℤ_, _*ℤ_}
@@ -26,6 +26,14 @@ euclid-lt (negsuc n) (suc m) h = omega arith
 
 pub ahead-lt : (size a r : ℕ) → 0 < size → ahead size a r < size
 ahead-lt size a r h = mod-lt (a + r) h
+
+-- two numbers below a valid size multiply to an i32
+pub product-fits : {size : ℕ} (a b : ℕ) → a < size → b < size → size ≤ 46341 → a * b < 2 ^ 31
+product-fits a b ha hb l =
+    let x : a ≤ 46340 = omega arith in
+    let y : b ≤ 46340 = omega arith in
+    let h : a * b ≤ 46340 * 46340 = mul-le-mul x y in
+    omega arith
 
 -- what `sum` promises for a size of some cells
 pub some-cells : (size s a r : ℕ) → (size ≡ 0 → ⊥) → s ≡ ahead size a r → s ≡ cond (eqb size 0) 0 (ahead size a r)

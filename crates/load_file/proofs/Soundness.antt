@@ -46,7 +46,8 @@ sound-fields size w e =
     top : {w : ℕ} → w / 2 ^ 46 ≡ 0 → w < 2 ^ 46
     top h = omega arith
 
-in-range : {size : ℕ} (c : Cell) → size ≤ 65536 → Sound size c → InRange c
+-- its fields are in range
+pub in-range : {size : ℕ} (c : Cell) → size ≤ 65536 → Sound size c → InRange c
 in-range c l h = record { opcode = omega arith; modifier = omega arith; a-mode = h .a-mode; b-mode = h .b-mode; a = omega arith; b = omega arith }
 
 pub fields-sound : (size : ℕ) (c : Cell) → size ≤ 65536 → Sound size c → soundWord size (packed c) ≡ true

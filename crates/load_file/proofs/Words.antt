@@ -6,7 +6,8 @@ use native.Mathlib.Nat.{mod-mod, mod-eq-of-lt}
 use native.Mathlib.Omega.{arith}
 use Rattle.laws.proofs.Fields.{beside, beside-low}
 use Rattle.load_file.specs.declared.Cell.{Cell}
-use Rattle.load_file.specs.Cells.{packed, unpacked}
+use Rattle.load_file.specs.Types.{Field, A, B}
+use Rattle.load_file.specs.Cells.{packed, unpacked, withNumber}
 
 -- the fields, one put beside the other, are the sum
 pub sums : (op md am bm a b : ℕ)
@@ -27,6 +28,14 @@ pub record InRange (c : Cell) : Type 0 where
   pub b-mode : c .«b_mode» < 8
   pub a : c .a .0 < 65536
   pub b : c .b .0 < 65536
+
+-- the cell of a word is in range, and stays so with a number that is
+pub word-range : (w : ℕ) → InRange (unpacked w)
+word-range w = record { opcode = omega arith; modifier = omega arith; a-mode = omega arith; b-mode = omega arith; a = omega arith; b = omega arith }
+
+pub with-range : (f : Field) (x : ℕ) (c : Cell) → x < 65536 → InRange c → InRange (withNumber f x c)
+with-range A x c h r = record { opcode = r .opcode; modifier = r .modifier; a-mode = r .a-mode; b-mode = r .b-mode; a = h; b = r .b }
+with-range B x c h r = record { opcode = r .opcode; modifier = r .modifier; a-mode = r .a-mode; b-mode = r .b-mode; a = r .a; b = h }
 
 -- equal field by field
 pub cell-ext : {c d : Cell} → c .opcode ≡ d .opcode → c .modifier ≡ d .modifier → c .«a_mode» ≡ d .«a_mode» → c .«b_mode» ≡ d .«b_mode»

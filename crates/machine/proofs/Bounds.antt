@@ -32,10 +32,13 @@ pub record Bounded (h : Header) : Type 0 where
 pub blank-bounded : (size : ℕ) → Bounded (blank size)
 blank-bounded size = record { steps = omega arith; threads = every-replicate (λ k. k ≤ 4294967295) 16 0 (omega arith) }
 
--- a next thread number that is not the greatest is below it
+-- a next thread number at an index; one that is not the greatest is below it
+pub thread-most : (h : Header) (i : ℕ) → Bounded h → getD (h .threads) i 0 ≤ 4294967295
+thread-most h i b = every-or (λ k. k ≤ 4294967295) (h .threads) i 0 (b .threads) (omega arith)
+
 thread-below : (h : Header) (i : ℕ) → Bounded h → eqb (getD (h .threads) i 0) 4294967295 ≡ false → getD (h .threads) i 0 < 4294967295
 thread-below h i b e =
-    let l : getD (h .threads) i 0 ≤ 4294967295 = every-or (λ k. k ≤ 4294967295) (h .threads) i 0 (b .threads) (omega arith) in
+    let l = thread-most h i b in
     let n : getD (h .threads) i 0 ≡ 4294967295 → ⊥ = eqb-false _ _ e in
     omega arith
 
@@ -86,7 +89,7 @@ module _ (h : Header) (n : List ℕ) (b : Bounded h) (free : (not (isNew h n) &&
       go true = record { steps = b .steps; threads = every-set (λ k. k ≤ 4294967295) (h .threads) (h .held) 0 (b .threads) (omega arith) }
       go false = b
 
-  registered-below : getD (registered h n .threads) (slot h n) 0 < 4294967295
+  pub registered-below : getD (registered h n .threads) (slot h n) 0 < 4294967295
   unfolding register
   registered-below = go (isNew h n) refl free
     where

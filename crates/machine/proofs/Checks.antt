@@ -2,9 +2,13 @@
 -- Assumes nothing.
 use Prim.Native.Nat.{ℕ}
 use mathlib.Core.Path.{_≡_, refl, sym, ap, subst, _∙_}
-use mathlib.Core.Bool.{Bool, true, false, cond, true≢false, false≢true}
+use mathlib.Core.Bool.{Bool, true, false, cond, not, _||_, true≢false, false≢true}
 use mathlib.Core.List.{List, [], _∷_}
 use mathlib.Core.Logic.{_⊎_, inl, inr}
+use lib.Dec.{T, eqb}
+use borrow.Author.Tests.{eqb-true, eq-eqb, not-true}
+use Rattle.laws.specs.Lists.{every}
+use Rattle.laws.proofs.Tests.{both}
 use Rattle.machine.specs.State.{Machine, Outcome, Check, Verdict, accepted, refusal, first, settle}
 
 abbrev isAccepted : Verdict → Bool
@@ -42,6 +46,21 @@ number-of P (c ∷ cs) h n v e = go (c .applies) e (number-of P cs (h .1) n v)
     go true e r = subst P (ap numberIn e) (h .0)
     go false e r = r e
 
+-- so the number is k where no other row's number passes the test that it passes
+pub only : (p : ℕ → Bool) (k : ℕ) (cs : List Check) → every (λ c. not (p (c .number)) || eqb (c .number) k) cs ≡ true
+    → (n v : ℕ) → first cs ≡ refusal n v → p n ≡ true → n ≡ k
+only p k cs e = number-of (λ n. p n ≡ true → n ≡ k) cs (rows cs e)
+  where
+    rows : (cs : List Check) → every (λ c. not (p (c .number)) || eqb (c .number) k) cs ≡ true → Numbers (λ n. p n ≡ true → n ≡ k) cs
+    rows [] e = tt
+    rows (c ∷ cs) e =
+        let h = both (not (p (c .number)) || eqb (c .number) k) (every (λ c. not (p (c .number)) || eqb (c .number) k) cs) e in
+        (λ t. eqb-true (c .number) k (rw t at (h .0)), rows cs (h .1))
+
+-- two numbers that the test tells apart
+pub other : {k n : ℕ} → T (not (eqb k n)) → k ≡ n → ⊥
+other {k} {n} t e = subst (λ (b : Bool). T (not b)) (eq-eqb k n e) t
+
 -- a number that is never given: each row that is reached does not apply or has another number
 abbrev pub Without : ℕ → List Check → Type 0
 Without k [] = Unit {0}
@@ -56,6 +75,13 @@ without k (c ∷ cs) w n v e z = go (c .applies) refl e (w .0) (λ f e. without 
     go true h e (inl f) r = true≢false (sym h ∙ f)
     go true h e (inr f) r = f (ap numberIn e ∙ z)
     go false h e x r = r h e
+
+-- so where no row has the number
+pub others : (k : ℕ) (cs : List Check) → every (λ c. not (eqb (c .number) k)) cs ≡ true → Without k cs
+others k [] e = tt
+others k (c ∷ cs) e =
+    let p = both (not (eqb (c .number) k)) (every (λ c. not (eqb (c .number) k)) cs) e in
+    (inr (λ q. true≢false (sym (eq-eqb (c .number) k q) ∙ not-true (eqb (c .number) k) (p .0))), λ f. others k cs (p .1))
 
 -- a refusal leaves the machine as it was and reports 0 writes, steps and pushes
 pub record Refused (m : Machine) (o : Outcome) : Type 0 where

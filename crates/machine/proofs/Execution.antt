@@ -1,6 +1,7 @@
 -- Laws of an instruction's effect: of sound registers it stores a sound cell and goes on inside the core.
 -- Assumes nothing.
 use Prim.Native.Nat.{ℕ, zero, suc, _%_, _<_}
+use mathlib.Core.Path.{_≡_, refl}
 use mathlib.Core.Bool.{Bool, true, false, cond, not}
 use mathlib.Core.List.{List, [], _∷_, map}
 use mathlib.Core.Option.{Option, none, some}
@@ -9,8 +10,10 @@ use native.Mathlib.Omega.{arith}
 use lib.Dec.{eqb, ltb}
 use lib.ListN.{getD}
 use Rattle.laws.specs.Lists.{every}
+use Rattle.laws.proofs.Numbers.{below}
 use Rattle.laws.proofs.Every.{_and_, Every, every-or}
 use Rattle.load_file.specs.declared.Cell.{Cell}
+use Rattle.load_file.specs.Offset.{ahead}
 use Rattle.load_file.specs.Types.{Field, Pair, pairs}
 use Rattle.load_file.specs.Cells.{number}
 use Rattle.load_file.specs.Modifier.{I}
@@ -19,6 +22,10 @@ use Rattle.load_file.proofs.Soundness.{Sound}
 use Rattle.machine.specs.Pointers.{less}
 use Rattle.machine.specs.Execution.{Ending, divisor, Next, ends, goes, splits, Effect, Scene, Met, mets, some?, onward, going, branch, skip, moved, sum, difference, product, quotient, remainder, lowered, isNone, put, stored, computes, copied, equal, effects, effectOf}
 use Rattle.machine.proofs.Pointers.{number-lt, with-sound}
+
+-- a, b and the target of each pair
+abbrev pub row : ℕ → Cell → Cell → List Met
+row k ra rb = map (λ p. record { a = number (p .from) ra; b = number (p .to) rb; target = p .to }) (getD pairs k [])
 
 -- what holds of the places to go on at
 abbrev pub Places : (ℕ → Type 0) → Next → Type 0
@@ -145,3 +152,9 @@ module _ (s : Scene) (j : s .jump < s .size) (ra : Sound (s .size) (s .ra)) (rb 
           and record { cell = tt; next = (onward-lt, j) }
           and record { cell = tt; next = onward-lt }
           and tt
+
+-- a result for each pair: all are stored, and the process goes on
+pub row-computes : (v : ℕ → ℕ → ℕ → ℕ) (M pc jump : ℕ) (ra rb live c : Cell) (k : ℕ) → k < 7
+    → computes (record { size = M; modifier = k; pc = pc; jump = jump; ra = ra; rb = rb; live = live }) (λ size a b. some (v size a b)) c
+    ≡ record { cell = some (stored (λ a b. some (v M a b)) (row k ra rb) c); next = goes (ahead M pc 1) }
+row-computes v M pc jump ra rb live c = below _ 7 (refl and refl and refl and refl and refl and refl and refl and tt)

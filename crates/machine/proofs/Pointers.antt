@@ -1,23 +1,35 @@
 -- Laws of an operand: it keeps the core's length, writes once at most, and of a sound core it leaves a sound one and reads sound cells.
 -- Assumes nothing.
 use Prim.Native.Nat.{ℕ, _≤_, _<_}
-use mathlib.Core.Path.{_≡_, refl, _∙_}
+use mathlib.Core.Path.{_≡_, refl, ap, _∙_}
 use mathlib.Core.Bool.{true}
 use mathlib.Core.List.{List}
 use native.Mathlib.Nat.{mod-lt}
 use native.Mathlib.Omega.{arith}
 use lib.ListN.{length, getD, set, length-set}
+use lib.Seq.{getD-set-same, getD-set-other}
 use Rattle.laws.proofs.Every.{Every, every-at, every-set}
 use Rattle.load_file.specs.declared.Cell.{Cell}
 use Rattle.load_file.specs.Types.{Field, A, B}
 use Rattle.load_file.specs.Offset.{ahead}
 use Rattle.load_file.specs.Cells.{packed, unpacked, soundWord, number, withNumber}
 use Rattle.load_file.proofs.Offsets.{ahead-lt}
+use Rattle.load_file.proofs.Words.{word-range, with-range, unpack-pack}
 use Rattle.load_file.proofs.Soundness.{Sound, sound-fields, fields-sound}
 use Rattle.machine.specs.Pointers.{Reach, here, there, through, reaches, Turn, keeps, lowers, raises, turns, fieldOf, used, pointerOf, changed, before, after, turnWrites, Operand, operand}
 
+-- reading after a change
+pub changed-same : (f : Field) (core : List ℕ) (p x : ℕ) → p < length core → x < 65536
+    → unpacked (getD (changed core p f x) p 0) ≡ withNumber f x (unpacked (getD core p 0))
+changed-same f core p x l h =
+    ap unpacked (getD-set-same core p (packed (withNumber f x (unpacked (getD core p 0)))) 0 l)
+    ∙ unpack-pack (withNumber f x (unpacked (getD core p 0))) (with-range f x _ h (word-range (getD core p 0)))
+
+pub changed-other : (f : Field) (core : List ℕ) (p q x : ℕ) → (q ≡ p → ⊥) → unpacked (getD (changed core p f x) q 0) ≡ unpacked (getD core q 0)
+changed-other f core p q x h = ap unpacked (getD-set-other core p q (packed (withNumber f x (unpacked (getD core p 0)))) 0 h)
+
 -- the core's length
-length-before : (t : Turn) (size : ℕ) (core : List ℕ) (l : ℕ) (f : Field) (x : ℕ) → length (before t size core l f x) ≡ length core
+pub length-before : (t : Turn) (size : ℕ) (core : List ℕ) (l : ℕ) (f : Field) (x : ℕ) → length (before t size core l f x) ≡ length core
 length-before keeps size core l f x = refl
 length-before lowers size core l f x = length-set core l _
 length-before raises size core l f x = refl
@@ -85,7 +97,7 @@ module _ (size : ℕ) where
   after-sound lowers core l f x c h = c
   after-sound raises core l f x c h = changed-sound core l f _ c h (mod-lt _ (omega arith))
 
-  pointer-lt : (r : Reach) (pc l x : ℕ) → pc < size → l < size → pointerOf r size pc l x < size
+  pub pointer-lt : (r : Reach) (pc l x : ℕ) → pc < size → l < size → pointerOf r size pc l x < size
   pointer-lt here pc l x hp hl = hp
   pointer-lt there pc l x hp hl = hl
   pointer-lt (through f) pc l x hp hl = ahead-lt size l x (omega arith)

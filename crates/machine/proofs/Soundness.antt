@@ -66,8 +66,11 @@ module _ (m : Machine) (s : SoundHeader m) where
   pub size-positive : 0 < m .header .size
   size-positive = leb-true _ _ (both (leb 1 (m .header .size)) (leb (m .header .size) 46341) (s .size) .0)
 
+  pub size-most : m .header .size ≤ 46341
+  size-most = leb-true _ _ (both (leb 1 (m .header .size)) (leb (m .header .size) 46341) (s .size) .1)
+
   pub size-small : m .header .size ≤ 65536
-  size-small = let h : m .header .size ≤ 46341 = leb-true _ _ (both (leb 1 (m .header .size)) (leb (m .header .size) 46341) (s .size) .1) in omega arith
+  size-small = omega (arith, size-most)
 
   pub counts-long : m .header .held ≤ length (m .header .counts)
   counts-long = omega (arith, s .few, s .shape .counts)

@@ -2,18 +2,20 @@
 -- Assumes nothing.
 use Prim.Native.Nat.{ℕ, _+_, _≤_, _<_}
 use mathlib.Core.Path.{_≡_, refl, sym, ap, _∙_}
-use mathlib.Core.Bool.{Bool, true, false, cond, true≢false}
-use mathlib.Core.List.{List}
+use mathlib.Core.Bool.{Bool, true, false, cond, _||_, true≢false}
+use mathlib.Core.List.{List, [], _∷_}
 use mathlib.Core.Option.{Option, none, some}
 use native.Mathlib.Nat.{add-zero}
 use native.Mathlib.Omega.{arith}
 use lib.Dec.{eqb}
 use lib.ListN.{length, length-set}
 use borrow.Author.Tests.{eqb-false, not-false}
-use Rattle.laws.specs.Lists.{oneIf}
+use Rattle.laws.specs.Lists.{oneIf, among}
+use Rattle.laws.proofs.Tests.{neither}
 use Rattle.laws.proofs.Every.{_and_}
 use Rattle.answer.specs.Numbers.{Told, gives}
 use Rattle.load_file.specs.declared.Cell.{Cell}
+use Rattle.load_file.specs.Opcode.{LDP, STP}
 use Rattle.machine.specs.State.{Machine, Outcome, Verdict, accepted, refusal, first, settle}
 use Rattle.machine.specs.Names.{isNew}
 use Rattle.machine.specs.Queue.{front, nameOf, pop}
@@ -194,6 +196,13 @@ ready m s e =
       header = sound-header m s (not-false _ (p .0));
       entry = sound-entry (m .header) (front m) (not-false _ (p .1 .1 .0));
     }
+
+-- LDP and STP are the last two
+pub not-last : (op : ℕ) → op ≤ 18 → among (LDP ∷ STP ∷ []) op ≡ false → op < 17
+not-last op h e =
+    let l = neither (eqb op 17) (eqb op 18 || false) e in
+    let s = neither (eqb op 18) false (l .1) in
+    omega (arith, h, eqb-false op 17 (l .0), eqb-false op 18 (s .0))
 
 -- popped, the step counted, and nothing pushed yet
 abbrev pub counting : Machine → Machine

@@ -18,10 +18,10 @@ use Rattle.load_file.specs.Opcode.{STP}
 use Rattle.load_file.specs.Modifier.{I}
 use Rattle.load_file.specs.Mode.{PostIncIndirectB}
 use Rattle.load_file.proofs.Offsets.{euclid-lt}
-use Rattle.load_file.proofs.Soundness.{fields-sound}
+use Rattle.load_file.proofs.Soundness.{Sound, fields-sound}
 use Rattle.program.specs.Program.{instructions, split, opcodeOf, aModeOf, bModeOf, modifierOf, lawful, lowestFault, cellOf, cells}
 
-length-split : (n : ℕ) (body : List ℕ) → length (split n body) ≡ n
+pub length-split : (n : ℕ) (body : List ℕ) → length (split n body) ≡ n
 length-split zero body = refl
 length-split (suc n) body = ap suc (length-split n (drop 12 body))
 
@@ -61,20 +61,40 @@ fewer P zero n body l e = tt
 fewer P (suc k) zero body l e = absurd (not-suc-le-zero l)
 fewer P (suc k) (suc n) body l e = (e .0, fewer P k n (drop 12 body) (le-of-suc-le-suc l) (e .1))
 
-all-lawful : (body : List ℕ) → ltb (lowestFault body) (instructions body) ≡ false → Every (λ x. not (lawful x) ≡ false) (split (instructions body) body)
+-- what a lawful instruction has
+pub record Lawful (x : List ℕ) : Type 0 where
+  pub whole : length x ≡ 12
+  pub opcode : opcodeOf x ≤ STP
+  pub modifier : modifierOf x ≤ I
+  pub a-mode : aModeOf x ≤ PostIncIndirectB
+  pub b-mode : bModeOf x ≤ PostIncIndirectB
+
+pub lawful-fields : (x : List ℕ) → not (lawful x) ≡ false → Lawful x
+unfolding lawful
+lawful-fields x e =
+    let h = holds
+    (eqb (length x) 12 ∷ leb (opcodeOf x) STP ∷ leb (modifierOf x) I ∷ leb (aModeOf x) PostIncIndirectB ∷ leb (bModeOf x) PostIncIndirectB ∷ [])
+    (not-false _ e) in
+    record {
+      whole = eqb-true _ _ (h .0);
+      opcode = leb-true _ _ (h .1 .0);
+      modifier = leb-true _ _ (h .1 .1 .0);
+      a-mode = leb-true _ _ (h .1 .1 .1 .0);
+      b-mode = leb-true _ _ (h .1 .1 .1 .1 .0);
+    }
+
+-- where no instruction is faulty, all are lawful
+pub all-lawful : (body : List ℕ) → ltb (lowestFault body) (instructions body) ≡ false → Every (λ x. not (lawful x) ≡ false) (split (instructions body) body)
 unfolding lowestFault
 all-lawful body e =
     lowest-none (λ x. not (lawful x)) (split (instructions body) body) (rw (length-split (instructions body) body) (ltb-false _ _ e))
 
 -- instructions that are lawful are whole, and so is their body
 twelve-each : (n : ℕ) (body : List ℕ) → Every (λ x. not (lawful x) ≡ false) (split n body) → 12 * n ≤ length body
-unfolding lawful
 twelve-each zero body e = omega arith
 twelve-each (suc n) body e =
     let x : List ℕ = take 12 body in
-    let h = holds
-    (eqb (length x) 12 ∷ leb (opcodeOf x) STP ∷ leb (modifierOf x) I ∷ leb (aModeOf x) PostIncIndirectB ∷ leb (bModeOf x) PostIncIndirectB ∷ []) (not-false _ (e .0)) in
-    let l : length x ≡ 12 = eqb-true (length x) 12 (h .0) in
+    let l : length x ≡ 12 = lawful-fields x (e .0) .whole in
     let r : 12 * n ≤ length (drop 12 body) = twelve-each n (drop 12 body) (e .1) in
     let a : length x + length (drop 12 body) ≡ length body = sym (length-append x (drop 12 body)) ∙ ap length (take-append-drop 12 body) in
     omega arith
@@ -83,24 +103,21 @@ pub lawful-whole : (body : List ℕ) → ltb (lowestFault body) (instructions bo
 lawful-whole body e = let l : 12 * instructions body ≤ length body = twelve-each (instructions body) body (all-lawful body e) in omega arith
 
 module _ (size : ℕ) (positive : 0 < size) (small : size ≤ 65536) where
-  lawful-sound : (x : List ℕ) → lawful x ≡ true → soundWord size (packed (cellOf size x)) ≡ true
-  unfolding lawful
-  lawful-sound x e =
-      let h = holds
-      (eqb (length x) 12 ∷ leb (opcodeOf x) STP ∷ leb (modifierOf x) I ∷ leb (aModeOf x) PostIncIndirectB ∷ leb (bModeOf x) PostIncIndirectB ∷ []) e in
-      fields-sound size (cellOf size x) small
-      (record {
-        opcode = leb-true _ _ (h .1 .0);
-        modifier = leb-true _ _ (h .1 .1 .0);
-        a-mode = let k = leb-true (aModeOf x) 7 (h .1 .1 .1 .0) in omega arith;
-        b-mode = let k = leb-true (bModeOf x) 7 (h .1 .1 .1 .1 .0) in omega arith;
+  pub lawful-cell : (x : List ℕ) → not (lawful x) ≡ false → Sound size (cellOf size x)
+  lawful-cell x e =
+      let h = lawful-fields x e in
+      record {
+        opcode = h .opcode;
+        modifier = h .modifier;
+        a-mode = omega (arith, h .a-mode);
+        b-mode = omega (arith, h .b-mode);
         a = euclid-lt _ size positive;
         b = euclid-lt _ size positive;
-      })
+      }
 
   words-sound : (xs : List (List ℕ)) → Every (λ x. not (lawful x) ≡ false) xs → Every (λ w. soundWord size w ≡ true) (map (λ x. packed (cellOf size x)) xs)
   words-sound [] e = tt
-  words-sound (x ∷ xs) e = (lawful-sound x (not-false _ (e .0)), words-sound xs (e .1))
+  words-sound (x ∷ xs) e = (fields-sound size (cellOf size x) small (lawful-cell x (e .0)), words-sound xs (e .1))
 
   pub cells-sound : (body : List ℕ) → ltb (lowestFault body) (instructions body) ≡ false → Every (λ w. soundWord size w ≡ true) (cells size body)
   unfolding cells

@@ -3,8 +3,11 @@
 use borrow.Author.Needs.{needs}
 use Rattle.execute.proofs.opcode.value.Statement.{statement}
 use Rattle.execute.proofs.opcode.value.Tie as tie
+use native.Mathlib.Nat.{lt-trans}
 use native.Mathlib.Omega.{arith}
-use Rattle.execute.proofs.Acting.{product-fits, value-sum, value-difference, value-product}
+use lib.Dec.{lit<}
+use Rattle.load_file.proofs.Offsets.{product-fits}
+use Rattle.execute.proofs.Acting.{value-sum, value-difference, value-product}
 
 sum-requires : tie.Need-sum-requires
 sum-requires c κs = search needs
@@ -22,7 +25,9 @@ returns-2 : tie.Need-returns-2
 returns-2 c = value-difference _ _ _ _ (c .before .before .if2 .taken) (c .sum2 .ensures)
 
 mul-product : tie.Need-mul-product
-mul-product c = record { fits = product-fits _ _ (c .before .before .before .before .pre .0) (c .before .before .before .before .pre .1) (c .before .before .before .before .pre .2) }
+mul-product c =
+    let p = c .before .before .before .before .pre in
+    record { fits = lt-trans (product-fits _ _ (p .0) (p .1) (p .2)) (lit< tt) }
 
 rem-product : tie.Need-rem-product
 rem-product c = search needs

@@ -1,0 +1,81 @@
+-- The theorem: over every list of calls in the domain, from a fresh machine on, our machine and the Rust's agree after each call.
+-- Assumes nothing.
+use Prim.Native.Nat.{ℕ, zero, suc, _-_, _^_}
+use mathlib.Core.Path.{_≡_, refl, sym, ap, subst, _∙_}
+use mathlib.Core.Bool.{true, false}
+use mathlib.Core.List.{List, [], _∷_, map}
+use mathlib.Core.Option.{some}
+use native.Mathlib.Omega.{arith}
+use lib.ListN.{length, replicate, length-replicate}
+use borrow.Author.Tests.{ne-eqb}
+use Rattle.load_file.specs.Cells.{freshCell}
+use Rattle.machine.specs.State.{Machine}
+use Rattle.machine.specs.Queue.{entries}
+use Rattle.machine.specs.Load.{freshMachine, fresh, load}
+use Rattle.machine.proofs.Soundness.{SoundHeader, size-most}
+use Rattle.machine.proofs.Load.{fresh-accepted}
+use Rattle.machine.proofs.SoundMachine.{SoundMachine, fresh-sound}
+use Rattle.account.specs.Calls.{Call, Load, Step, Run, outcome}
+use Rattle.account.proofs.NeverNine.{call-sound}
+use Rattle.reference.specs.Types.{Instruction, default}
+use Rattle.reference.specs.Core.{Core, new}
+use Rattle.reference.specs.Same.{wordOf, Same}
+use Rattle.reference.specs.Refinement.{Given, meets, answered, Domain, returned, Agrees, Refinement}
+use Rattle.reference.proofs.Stepping.{Agreed, step-agrees}
+use Rattle.reference.proofs.Loading.{load-agrees}
+use Rattle.reference.proofs.Running.{run-agrees}
+
+-- one call
+call-agrees : (x : Call) (m : Machine) (c : Core) → SoundMachine m → Same m c → Given x → answered (outcome x m .number) ≡ true → meets x m ≡ false
+    → Agreed (outcome x m) (returned x c)
+call-agrees (Load name body origin place) m c s same given a f =
+    rw (given .0) (load-agrees m c s same name body origin (given .1) (subst (λ (p : ℕ). answered (load m name body origin p .number) ≡ true) (given .0) a))
+call-agrees Step m c s same given a f = step-agrees m c s same a f
+call-agrees (Run ceiling) m c s same given a f = run-agrees ceiling m c s same a f
+
+-- every list
+lists-agree : (xs : List Call) (m : Machine) (c : Core) → SoundMachine m → Same m c → Domain xs m → Agrees xs m c
+lists-agree [] m c s same d = same
+lists-agree (x ∷ xs) m c s same d =
+    let a = call-agrees x m c s same (d .0) (d .1) (d .2) in
+    (same, a .answer, lists-agree xs (outcome x m .machine) (returned x c .core) (call-sound x m s) (a .same) (d .3))
+
+-- fresh cells are the Rust's default instructions
+fresh-cells : (n : ℕ) → replicate n default ≡ map wordOf (replicate n freshCell)
+fresh-cells zero = refl
+fresh-cells (suc n) = ap (λ (l : List Instruction). default ∷ l) (fresh-cells n)
+
+-- the Rust's core of a size that fresh accepts
+abbrev created : ℕ → Core
+created size =
+    record { instructions = replicate size default; process-queue = record { queue = []; processes = []; next-thread-id = [] }; steps-taken = 0 }
+
+fresh-same : (size : ℕ) (core queue : List ℕ) → length core ≡ size → Same (freshMachine size core queue) (created size)
+unfolding entries
+fresh-same size core queue e =
+    record {
+      instructions = fresh-cells size ∙ ap (λ (n : ℕ). map wordOf (replicate n freshCell)) (sym e);
+      queue = refl;
+      processes = refl;
+      next-thread-id = refl;
+      steps-taken = refl;
+    }
+
+-- THE THEOREM
+pub refinement : Refinement
+refinement size core queue ok = (created size, made, λ calls. lists-agree calls (fresh size core queue .machine) (created size) sound same)
+  where
+    is : fresh size core queue .machine ≡ freshMachine size core queue
+    is = fresh-accepted size core queue ok .1
+
+    sound : SoundMachine (fresh size core queue .machine)
+    sound = fresh-sound size core queue ok
+
+    header : SoundHeader (freshMachine size core queue)
+    header = subst SoundHeader is (sound .header)
+
+    made : new size ≡ some (created size)
+    made = simp (ne-eqb size (2 ^ 32 - 1) (λ e. omega (arith, size-most (freshMachine size core queue) header)))
+
+    same : Same (fresh size core queue .machine) (created size)
+    same = rw is (fresh-same size core queue (sym (length-replicate (length core) freshCell) ∙ header .core))

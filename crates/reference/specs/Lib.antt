@@ -1,0 +1,9 @@
+pub mod Types
+pub mod Offset
+pub mod Address
+pub mod Modifiers
+pub mod Process
+pub mod Opcodes
+pub mod Core
+pub mod Same
+pub mod Refinement

@@ -1,0 +1,88 @@
+-- The Rust's domain (01, its last sentence before 'Departures from the draft'), and the statement that our machine agrees with the Rust there.
+-- Assumes nothing.
+use Prim.Native.Nat.{ℕ, zero, suc, _-_, _≤_}
+use mathlib.Core.Path.{_≡_}
+use mathlib.Core.Bool.{Bool, true, false, cond, not, _&&_, _||_}
+use mathlib.Core.List.{List, [], _∷_}
+use mathlib.Core.Option.{Option, none, some}
+use lib.Dec.{eqb}
+use Rattle.laws.specs.Lists.{among}
+use Rattle.machine.specs.declared.Ceiling.{Ceiling}
+use Rattle.machine.specs.declared.Ceiling.the-variants.{Unsaid, Steps}
+use Rattle.machine.specs.State.{Machine}
+use Rattle.machine.specs.Queue.{full}
+use Rattle.machine.specs.Load.{fresh}
+use Rattle.machine.specs.Execution.{Next, ends, goes, splits}
+use Rattle.machine.specs.Step.{effect, step}
+use Rattle.machine.specs.Run.{ceilingOf}
+use Rattle.account.specs.Calls.{Call, Load, Step, Run, outcome}
+use Rattle.reference.specs.Process.{NoRemainingProcesses, ExecuteDat, DivideByZero}
+use Rattle.reference.specs.Core as Rust
+use Rattle.reference.specs.Core.{Core, Answer, Ok, WarriorTooLong, Err, Panic, Returned, new, load-warrior, run}
+use Rattle.reference.specs.Same.{Same, warriorOf}
+
+-- place 0; an origin of 16 bits
+abbrev pub Given : Call → Type 0
+Given (Load name body origin place) = (place ≡ 0) × (origin ≤ 65535)
+Given Step = Unit {0}
+Given (Run ceiling) = Unit {0}
+
+-- the process limit is met: SPL is executed while the queue is full, so that its child is dropped. (A load at a full queue is answered 6.)
+abbrev pub isSplit : Next → Bool
+isSplit (ends x) = false
+isSplit (goes p) = false
+isSplit (splits p c) = true
+
+abbrev pub meetsStep : Machine → Bool
+meetsStep m = isSplit (effect m .next) && full m
+
+abbrev pub meetsPlays : ℕ → Machine → Bool
+meetsPlays zero m = false
+meetsPlays (suc k) m = meetsStep m || cond (eqb (step m .number) 0) (meetsPlays k (step m .machine)) false
+
+abbrev pub meets : Call → Machine → Bool
+meets (Load name body origin place) m = false
+meets Step m = meetsStep m
+meets (Run ceiling) m = meetsPlays (ceilingOf ceiling - m .header .steps) m
+
+-- answers other than 1, 2, 4, 5, 6, 8, 9, 10, 13
+abbrev pub answered : ℕ → Bool
+answered n = not (among (1 ∷ 2 ∷ 4 ∷ 5 ∷ 6 ∷ 8 ∷ 9 ∷ 10 ∷ 13 ∷ []) n)
+
+-- every call of the list is in the domain
+abbrev pub Domain : List Call → Machine → Type 0
+Domain [] m = Unit {0}
+Domain (x ∷ xs) m = Given x × (answered (outcome x m .number) ≡ true) × (meets x m ≡ false) × Domain xs (outcome x m .machine)
+
+-- the Rust's call
+abbrev pub cyclesOf : Ceiling → Option ℕ
+cyclesOf Unsaid = none
+cyclesOf (Steps n) = some n
+
+abbrev pub returned : Call → Core → Returned
+returned (Load name body origin place) c = load-warrior (warriorOf name body origin) c
+returned Step c = Rust.step c
+returned (Run ceiling) c = run (cyclesOf ceiling) c
+
+-- what the Rust returns for 0, 3, 7, 11 with its place, 12; no other number is answered in the domain
+abbrev pub answerOf : ℕ → ℕ → Answer
+answerOf n v =
+    cond (eqb n 0) Ok
+    (cond (eqb n 3) WarriorTooLong
+    (cond (eqb n 7) (Err NoRemainingProcesses)
+    (cond (eqb n 11) (Err (ExecuteDat v))
+    (cond (eqb n 12) (Err DivideByZero)
+    Panic))))
+
+-- the states are the same before the calls and after each, and each answer is the Rust's
+abbrev pub Agrees : List Call → Machine → Core → Type 0
+Agrees [] m c = Same m c
+Agrees (x ∷ xs) m c =
+    let o = outcome x m in
+    Same m c × (returned x c .answer ≡ answerOf (o .number) (o .value)) × Agrees xs (o .machine) (returned x c .core)
+
+-- THE STATEMENT. Where fresh makes a machine, the Rust makes a core of that size, and they agree over every list of calls in the domain
+abbrev pub Refinement : Type 0
+Refinement =
+    (size : ℕ) (core queue : List ℕ) → fresh size core queue .number ≡ 0
+    → (c : Core) × (new size ≡ some c) × ((calls : List Call) → Domain calls (fresh size core queue .machine) → Agrees calls (fresh size core queue .machine) c)
