@@ -54,7 +54,15 @@ pub record Left (h : Header) (l out : List ℕ) (p to i : ℕ) : Type 0 where
 
 module _ (h : Header) (l : List ℕ) (p : ℕ) where
   pub begun : p + 4480 ≤ length l → h .held ≤ 16 → Left h l l p p 0
-  begun room few = record { inside = omega arith; kept = refl; room = omega arith; bytes = refl; ends = refl }
+  begun room few =
+      let all : h .held ≡ h .held - 0 = omega arith in
+      record {
+        inside = omega arith;
+        kept = refl;
+        room = omega arith;
+        bytes = ap (λ (k : ℕ). sets l p (nameLines h 0 k)) all;
+        ends = ap (λ (k : ℕ). p + length (nameLines h 0 k)) all;
+      }
 
   module _ (out : List ℕ) (to i : ℕ) (left : Left h l out p to i) where
     pub over : h .held ≤ i → Puts l out p to (nameLines h 0 (h .held))
@@ -75,8 +83,8 @@ module _ (h : Header) (l : List ℕ) (p : ℕ) where
           inside = omega arith;
           kept = same ∙ left .kept;
           room = let r = left .room in let t = puts .1 in omega arith;
-          bytes = left .bytes ∙ ap (λ (k : ℕ). sets out to (nameLines h i k)) one ∙ store-then out out′ _ rest to to′ (line .out) (sym (line .to));
+          bytes = left .bytes ∙ ap (λ (k : ℕ). sets out to (nameLines h i k)) one ∙ store-then out out′ (lineOf (nameAt h i) (getD (h .counts) i 0)) rest to to′ (line .out) (sym (line .to));
           ends =
               left .ends ∙ ap (λ (k : ℕ). to + length (nameLines h i k)) one ∙ ap (λ (k : ℕ). to + k) (length-append (lineOf (nameAt h i) (getD (h .counts) i 0)) rest)
-              ∙ sym (add-assoc to _ (length rest)) ∙ ap (λ (k : ℕ). k + length rest) (sym (line .to));
+              ∙ sym (add-assoc to (length (lineOf (nameAt h i) (getD (h .counts) i 0))) (length rest)) ∙ ap (λ (k : ℕ). k + length rest) (sym (line .to));
         }
