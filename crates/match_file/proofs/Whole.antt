@@ -92,6 +92,10 @@ module _ (f : List ℕ) where
       let b = ltb-true k (getD f 0 0) (unless-true (ltb k (getD f 0 0)) 0 (else-right (fault f) (unless (ltb k (getD f 0 0)) 0) e)) in
       record { head = h; below = b; its = kth 4 (4 + 43 * getD f 0 0) (getD f 0 0) k (h .lines) b }
 
+  -- it is below 16
+  pub below-16 : (k : ℕ) → faultAt f k ≡ Nowhere → k < 16
+  below-16 k e = let w = warrior-ok k e in omega (arith, w .below, w .head .high)
+
 -- the parts handed back, as the code cuts them
 module _ (f : List ℕ) (k : ℕ) where
   pub no-part : (xs : List ℕ) {q : ℕ} → faultAt f k ≡ At q → [] ≡ emptied (faultAt f k) xs

@@ -20,12 +20,12 @@ use Rattle.match_file.proofs.Parts.{length-part}
 use Rattle.match_file.proofs.Whole.{Kth, warrior-ok}
 use Rattle.match_file.proofs.Format.{Short, lineOf, length-line, length-lines, file-more}
 use Rattle.match_file.proofs.Warriors.{length-body, count-is}
-use Rattle.match_write.proofs.Stores.{store-then}
+use Rattle.match_write.proofs.Stores.{store-then, spelled-zero}
 
 -- a line, stored by a store and six calls
 pub line-stored : (l l1 l2 l3 l4 l5 l6 name : List ℕ) (p start count origin place : ℕ) → length name ≤ 32
     → l1 ≡ sets (set l p (length name)) (p + 1) name
-    → l2 ≡ sets l1 (p + 1 + length name) (replicate (32 - length name) 0)
+    → l2 ≡ sets l1 (p + 1 + length name) (spelled (32 - length name) 0)
     → l3 ≡ sets l2 (p + 33) (spelled 4 start)
     → l4 ≡ sets l3 (p + 37) (spelled 2 count)
     → l5 ≡ sets l4 (p + 39) (spelled 2 origin)
@@ -42,7 +42,7 @@ line-stored l l1 l2 l3 l4 l5 l6 name p start count origin place h e1 e2 e3 e4 e5
     sym
     (ap (λ (q : ℕ). sets (set l p (length name)) q (name ++ (zeros ++ from-start))) (sym (add-one p))
     ∙ store-then (set l p (length name)) l1 name (zeros ++ from-start) (p + 1) (p + 1 + length name) e1 refl
-    ∙ store-then l1 l2 zeros from-start (p + 1 + length name) (p + 33) e2 k
+    ∙ store-then l1 l2 zeros from-start (p + 1 + length name) (p + 33) (e2 ∙ ap (sets l1 (p + 1 + length name)) (spelled-zero (32 - length name))) k
     ∙ store-then l2 l3 (spelled 4 start) from-count (p + 33) (p + 37) e3 (omega arith)
     ∙ store-then l3 l4 (spelled 2 count) from-origin (p + 37) (p + 39) e4 (omega arith)
     ∙ store-then l4 l5 (spelled 2 origin) from-place (p + 39) (p + 41) e5 (omega arith)
