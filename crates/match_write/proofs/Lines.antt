@@ -17,7 +17,7 @@ use Rattle.match_file.specs.Format.{Warrior, line, lines, bodies, file}
 use Rattle.match_file.specs.Faults.{faultAt}
 use Rattle.match_file.specs.Reading.{zeroed, emptied, countOf, warriorAt, warriorOf, warriorsAt}
 use Rattle.match_file.proofs.Parts.{length-part}
-use Rattle.match_file.proofs.Whole.{Kth, warrior-ok}
+use Rattle.match_file.proofs.Whole.{LineAt, warrior-ok}
 use Rattle.match_file.proofs.Format.{Short, lineOf, length-line, length-lines, file-more}
 use Rattle.match_file.proofs.Warriors.{length-body, count-is}
 use Rattle.match_write.proofs.Stores.{store-then, spelled-zero}
@@ -56,7 +56,7 @@ module _ (f : List ℕ) (i : ℕ) (e : faultAt f i ≡ Nowhere) where
   read-part : {r xs : List ℕ} → r ≡ emptied (faultAt f i) xs → r ≡ xs
   read-part {xs = xs} d = d ∙ ap (λ (x : Fault). emptied x xs) e
 
-  its : Kth f (4 + 43 * i)
+  its : LineAt f (4 + 43 * i)
   its = warrior-ok f i e .its
 
   short-name : length (warriorOf f i .name) ≤ 32

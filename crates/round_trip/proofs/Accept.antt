@@ -24,7 +24,7 @@ use Rattle.match_file.specs.Reading.{warriorsAt}
 use Rattle.match_file.proofs.Parts.{length-part}
 use Rattle.match_file.proofs.Numbers.{number-lt}
 use Rattle.match_file.proofs.Chains.{all-right}
-use Rattle.match_file.proofs.Whole.{first-line, later-lines, lines-start, Kth}
+use Rattle.match_file.proofs.Whole.{first-line, later-lines, lines-start, LineAt}
 use Rattle.match_file.proofs.Warriors.{length-body, count-is}
 use Rattle.match_write.specs.Writing.{settle, checks}
 
@@ -97,7 +97,7 @@ fits-read f p s zero b e = tt
 fits-read f p s (suc n) b e =
     let o = first-line f p s n e in
     let m : ℕ = s + 12 * number f (p + 37) 2 in
-    let k : Kth f p = record { start = s; line = o; ends = lines-start f (p + 43) m n (later-lines f p s n e) } in
+    let k : LineAt f p = record { start = s; line = o; ends = lines-start f (p + 43) m n (later-lines f p s n e) } in
     let z : ℕ = getD f p 0 in
     let g : p + 43 ≤ length f = o .fits in
     let h : z ≤ 32 = o .short in
