@@ -83,7 +83,7 @@ module _ (f : List ℕ) (i : ℕ) (e : faultAt f i ≡ Nowhere) where
       in
       ap (λ (x : ℕ). sets out q (lines to (warriorsAt f q x))) (fall n i h)
       ∙ store-then out out′ (lineOf w to) (lines (to + length (w .body)) (warriorsAt f (q + 43) (n - (i + 1)))) q (q + 43) (s ∙ ap (sets out q) k)
-      (ap (λ (x : ℕ). q + x) (length-line (w .name) to (instructions (w .body)) (w .origin) (w .place) short-name))
+      (ap (λ (x : ℕ). q + x) (length-line w to short-name))
       ∙ ap₂ (λ (x y : ℕ). sets out′ y (lines (to + x) (warriorsAt f y (n - (i + 1))))) (sym (its-count ec)) z
 
   -- the next body's start, and the bodies left
@@ -126,6 +126,6 @@ module _ (size n : ℕ) (ws : List Warrior) (w : Warrior) (h : length ws ≡ n) 
       ∙ store-then (set out 0 (n + 1)) l1 (spelled 2 size) (0 ∷ (ls ++ (l ++ bs))) 1 3 e1 refl
       ∙ store-then (set l1 3 0) l2 ls (l ++ bs) 4 (4 + 43 * n) e2 (ap (λ (x : ℕ). 4 + x) (length-lines p ws short ∙ ap (λ (x : ℕ). 43 * x) h))
       ∙ store-then l2 l3 l bs (4 + 43 * n) p (e3 ∙ ap₂ (λ (x y : ℕ). sets l2 (4 + 43 * n) (line (w .name) x y (w .origin) (w .place))) et ec)
-      (ap (λ (x : ℕ). 4 + 43 * n + x) (length-line (w .name) (p + length (bodies ws)) (instructions (w .body)) (w .origin) (w .place) name) ∙ z)
+      (ap (λ (x : ℕ). 4 + 43 * n + x) (length-line w (p + length (bodies ws)) name) ∙ z)
       ∙ store-then l3 l4 (bodies ws) (w .body) p (p + length rest) (e4 ∙ ap (λ (x : List ℕ). sets l3 p x) er) (ap (λ (x : List ℕ). p + length x) (sym er))
       ∙ sym e5)

@@ -77,8 +77,16 @@ module _ (size : ℕ) (ws : List Warrior) (w : Warrior) (room : ℕ) where
 
   pub accept : Passed size w → length ws < 16 → length (file size (ws ++ (w ∷ []))) ≤ room → first (checks size ws w room) ≡ accepted
   accept k h l =
-      simp
-      (le-leb 1 size (k .low), le-leb size 46341 (k .high), le-ltb size (instructions (w .body)) (k .count), k .codes, k .name, lt-leb size (w .place) (k .place), lt-leb 16 (length ws) h, le-ltb room (length (file size (ws ++ (w ∷ [])))) l)
+      simp (
+        le-leb 1 size (k .low),
+        le-leb size 46341 (k .high),
+        le-ltb size (instructions (w .body)) (k .count),
+        k .codes,
+        k .name,
+        lt-leb size (w .place) (k .place),
+        lt-leb 16 (length ws) h,
+        le-ltb room (length (file size (ws ++ (w ∷ [])))) l,
+      )
 
 -- a warrior that passed fits a file
 pub fits-passed : (size : ℕ) (w : Warrior) → Passed size w → w .origin < 65536 → Fits w
