@@ -18,19 +18,18 @@ Short (w ∷ ws) = (length (w .name) ≤ 32) × Short ws
 abbrev pub lineOf : Warrior → ℕ → List ℕ
 lineOf w start = line (w .name) start (instructions (w .body)) (w .origin) (w .place)
 
-pub length-line : (name : List ℕ) (start count origin place : ℕ) → length name ≤ 32 → length (line name start count origin place) ≡ 43
+pub length-line : (w : Warrior) (start : ℕ) → length (w .name) ≤ 32 → length (lineOf w start) ≡ 43
 unfolding line
-length-line name start count origin place h =
-    let e : length (name ++ (replicate (32 - length name) 0 ++ (spelled 4 start ++ (spelled 2 count ++ (spelled 2 origin ++ spelled 2 place))))) ≡ 42
-    = simp (length-append, length-replicate) (omega arith)
-    in
+length-line w start h =
+    let after : List ℕ = spelled 4 start ++ (spelled 2 (instructions (w .body)) ++ (spelled 2 (w .origin) ++ spelled 2 (w .place))) in
+    let e : length (w .name ++ (replicate (32 - length (w .name)) 0 ++ after)) ≡ 42 = simp (length-append, length-replicate) (omega arith) in
     ap suc e
 
 pub length-lines : (start : ℕ) (ws : List Warrior) → Short ws → length (lines start ws) ≡ 43 * length ws
 length-lines start [] h = refl
 length-lines start (w ∷ ws) h =
     length-append (lineOf w start) (lines (start + length (w .body)) ws)
-    ∙ ap₂ (λ (x y : ℕ). x + y) (length-line (w .name) start (instructions (w .body)) (w .origin) (w .place) (h .0)) (length-lines (start + length (w .body)) ws (h .1))
+    ∙ ap₂ (λ (x y : ℕ). x + y) (length-line w start (h .0)) (length-lines (start + length (w .body)) ws (h .1))
     ∙ (let e : 43 + 43 * length ws ≡ 43 * suc (length ws) = omega arith in e)
 
 pub length-file : (size : ℕ) (ws : List Warrior) → Short ws → length (file size ws) ≡ 4 + 43 * length ws + length (bodies ws)

@@ -44,26 +44,32 @@ module _ (f : List ℕ) (p s : ℕ) where
   past-name g l = simp (le-leb (p + 1) (length f) (omega arith), le-leb (getD f p 0) 32 g, le-leb (p + 1 + 32) (length f) (omega arith))
 
   -- the parts as the code cuts them
-  name-part : nameFault f p ≡ faulty validByte (p + 1) (part f (p + 1) (p + 1 + getD f p 0 - (p + 1)))
+  abbrev nameCut : Fault
+  nameCut = faulty validByte (p + 1) (part f (p + 1) (p + 1 + getD f p 0 - (p + 1)))
+
+  abbrev paddingCut : Fault
+  paddingCut = faulty (within 0 0) (p + 1 + getD f p 0) (part f (p + 1 + getD f p 0) (p + 33 - (p + 1 + getD f p 0)))
+
+  name-part : nameFault f p ≡ nameCut
   name-part = let e : p + 1 + getD f p 0 - (p + 1) ≡ getD f p 0 = omega arith in rw e
 
-  pad-part : paddingFault f p ≡ faulty (within 0 0) (p + 1 + getD f p 0) (part f (p + 1 + getD f p 0) (p + 33 - (p + 1 + getD f p 0)))
-  pad-part = let e : p + 33 - (p + 1 + getD f p 0) ≡ 32 - getD f p 0 = omega arith in rw e
+  padding-part : paddingFault f p ≡ paddingCut
+  padding-part = let e : p + 33 - (p + 1 + getD f p 0) ≡ 32 - getD f p 0 = omega arith in rw e
 
   module _ (g : getD f p 0 ≤ 32) (l : p + 33 ≤ length f) where
-    pub bad-name : (r : Fault) {q : ℕ} → r ≡ faulty validByte (p + 1) (part f (p + 1) (p + 1 + getD f p 0 - (p + 1))) → r ≡ At q → At q ≡ lineFault f p s
+    pub bad-name : (r : Fault) {q : ℕ} → r ≡ nameCut → r ≡ At q → At q ≡ lineFault f p s
     bad-name r e d = sym (past-name g l ∙ ap (λ (x : Fault). x else paddingFault f p else restFault f p s) (name-part ∙ sym e ∙ d))
 
-    module _ (r : Fault) (e : r ≡ faulty validByte (p + 1) (part f (p + 1) (p + 1 + getD f p 0 - (p + 1)))) (d : r ≡ Nowhere) where
+    module _ (r : Fault) (e : r ≡ nameCut) (d : r ≡ Nowhere) where
       past-bytes : lineFault f p s ≡ (paddingFault f p else restFault f p s)
       past-bytes = past-name g l ∙ ap (λ (x : Fault). x else paddingFault f p else restFault f p s) (name-part ∙ sym e ∙ d)
 
-      pub bad-padding : (t : Fault) {q : ℕ} → t ≡ faulty (within 0 0) (p + 1 + getD f p 0) (part f (p + 1 + getD f p 0) (p + 33 - (p + 1 + getD f p 0))) → t ≡ At q → At q ≡ lineFault f p s
-      bad-padding t u v = sym (past-bytes ∙ ap (λ (x : Fault). x else restFault f p s) (pad-part ∙ sym u ∙ v))
+      pub bad-padding : (t : Fault) {q : ℕ} → t ≡ paddingCut → t ≡ At q → At q ≡ lineFault f p s
+      bad-padding t u v = sym (past-bytes ∙ ap (λ (x : Fault). x else restFault f p s) (padding-part ∙ sym u ∙ v))
 
-      module _ (t : Fault) (u : t ≡ faulty (within 0 0) (p + 1 + getD f p 0) (part f (p + 1 + getD f p 0) (p + 33 - (p + 1 + getD f p 0)))) (v : t ≡ Nowhere) where
+      module _ (t : Fault) (u : t ≡ paddingCut) (v : t ≡ Nowhere) where
         past-padding : lineFault f p s ≡ restFault f p s
-        past-padding = past-bytes ∙ ap (λ (x : Fault). x else restFault f p s) (pad-part ∙ sym u ∙ v)
+        past-padding = past-bytes ∙ ap (λ (x : Fault). x else restFault f p s) (padding-part ∙ sym u ∙ v)
 
         pub no-start : length f < p + 37 → At (length f) ≡ lineFault f p s
         no-start h = sym (past-padding ∙ simp (lt-leb (p + 33 + 4) (length f) (omega arith)))
@@ -71,7 +77,8 @@ module _ (f : List ℕ) (p s : ℕ) where
         pub bad-start : p + 37 ≤ length f → (number f (p + 33) 4 ≡ s → ⊥) → At (p + 33) ≡ lineFault f p s
         bad-start h n = sym (past-padding ∙ simp (le-leb (p + 33 + 4) (length f) (omega arith), ne-eqb (number f (p + 33) 4) s n))
 
-        past-start : p + 37 ≤ length f → number f (p + 33) 4 ≡ s → lineFault f p s ≡ (field f (p + 37) 2 true else field f (p + 39) 2 true else field f (p + 41) 2 true)
+        past-start : p + 37 ≤ length f → number f (p + 33) 4 ≡ s
+            → lineFault f p s ≡ (field f (p + 37) 2 true else field f (p + 39) 2 true else field f (p + 41) 2 true)
         past-start h n = past-padding ∙ simp (le-leb (p + 33 + 4) (length f) (omega arith), eq-eqb (number f (p + 33) 4) s n)
 
         pub good-line : p + 43 ≤ length f → number f (p + 33) 4 ≡ s → Nowhere ≡ lineFault f p s
@@ -119,7 +126,7 @@ module _ (f : List ℕ) (p s : ℕ) where
       }
 
   pub ok-line : LineOk f p s → lineFault f p s ≡ Nowhere
-  ok-line k = sym (good-line f p s (k .short) (omega (arith, k .fits)) (nameFault f p) (name-part f p s) (k .name) (paddingFault f p) (pad-part f p s) (k .padding) (k .fits) (k .start))
+  ok-line k = sym (good-line f p s (k .short) (omega (arith, k .fits)) (nameFault f p) (name-part f p s) (k .name) (paddingFault f p) (padding-part f p s) (k .padding) (k .fits) (k .start))
 
 -- ---- the lines, one after the other
 

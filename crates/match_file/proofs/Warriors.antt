@@ -15,7 +15,7 @@ use Rattle.match_file.specs.Reading.{warriorAt, warriorsAt}
 use Rattle.match_file.proofs.Parts.{length-part}
 use Rattle.match_file.proofs.Format.{Short}
 use Rattle.match_file.proofs.Lines.{lines-none}
-use Rattle.match_file.proofs.Whole.{end-ok, first-line, later-lines, Kth}
+use Rattle.match_file.proofs.Whole.{end-ok, first-line, later-lines, LineAt}
 
 module _ (f : List ℕ) where
   pub length-warriors : (p n : ℕ) → length (warriorsAt f p n) ≡ n
@@ -27,10 +27,10 @@ module _ (f : List ℕ) where
   warrior-at p (suc n) zero d h = ap (warriorAt f) (let e : p ≡ p + 43 * 0 = omega arith in e)
   warrior-at p (suc n) (suc k) d h = warrior-at (p + 43) n k d (omega arith) ∙ ap (warriorAt f) (let e : p + 43 + 43 * k ≡ p + 43 * suc k = omega arith in e)
 
-  pub length-body : (q : ℕ) → Kth f q → length (warriorAt f q .body) ≡ 12 * number f (q + 37) 2
+  pub length-body : (q : ℕ) → LineAt f q → length (warriorAt f q .body) ≡ 12 * number f (q + 37) 2
   length-body q k = length-part f (number f (q + 33) 4) (12 * number f (q + 37) 2) (omega (arith, k .ends, k .line .start))
 
-  pub count-is : (q : ℕ) → Kth f q → instructions (warriorAt f q .body) ≡ number f (q + 37) 2
+  pub count-is : (q : ℕ) → LineAt f q → instructions (warriorAt f q .body) ≡ number f (q + 37) 2
   count-is q k = rw (length-body q k) (omega arith)
 
   -- the bodies go on to the file's end

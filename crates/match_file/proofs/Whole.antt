@@ -66,31 +66,35 @@ module _ (f : List ℕ) where
   lines-start p s (suc n) e = omega (arith, lines-start (p + 43) (s + 12 * number f (p + 37) 2) n (later-lines p s n e))
 
   -- line k of n, and its body
-  pub record Kth (q : ℕ) : Type 0 where
+  pub record LineAt (q : ℕ) : Type 0 where
     pub start : ℕ
     pub line : LineOk f q start
     pub ends : start + 12 * number f (q + 37) 2 ≤ length f
 
-  pub kth : (p s n k : ℕ) → linesFault f p s n ≡ Nowhere → k < n → Kth (p + 43 * k)
-  kth p s (suc n) zero e h =
+  pub line-at : (p s n k : ℕ) → linesFault f p s n ≡ Nowhere → k < n → LineAt (p + 43 * k)
+  line-at p s (suc n) zero e h =
       let z : p + 43 * 0 ≡ p = omega arith in
       rw z (record { start = s; line = first-line p s n e; ends = lines-start (p + 43) (s + 12 * number f (p + 37) 2) n (later-lines p s n e) })
-  kth p s (suc n) (suc k) e h =
+  line-at p s (suc n) (suc k) e h =
       let z : p + 43 * suc k ≡ p + 43 + 43 * k = omega arith in
-      rw z (kth (p + 43) (s + 12 * number f (p + 37) 2) n k (later-lines p s n e) (omega arith))
-  kth p s zero k e h = absurd (let x : ⊥ = omega arith in x)
+      rw z (line-at (p + 43) (s + 12 * number f (p + 37) 2) n k (later-lines p s n e) (omega arith))
+  line-at p s zero k e h = absurd (let x : ⊥ = omega arith in x)
 
   -- a warrior number that reads
   pub record WarriorOk (k : ℕ) : Type 0 where
     pub head : HeadOk f
     pub below : k < getD f 0 0
-    pub its : Kth (4 + 43 * k)
+    pub its : LineAt (4 + 43 * k)
 
   pub warrior-ok : (k : ℕ) → faultAt f k ≡ Nowhere → WarriorOk k
   warrior-ok k e =
       let h = head-ok f (else-left (fault f) (unless (ltb k (getD f 0 0)) 0) e) in
       let b = ltb-true k (getD f 0 0) (unless-true (ltb k (getD f 0 0)) 0 (else-right (fault f) (unless (ltb k (getD f 0 0)) 0) e)) in
-      record { head = h; below = b; its = kth 4 (4 + 43 * getD f 0 0) (getD f 0 0) k (h .lines) b }
+      record { head = h; below = b; its = line-at 4 (4 + 43 * getD f 0 0) (getD f 0 0) k (h .lines) b }
+
+  -- it is below 16
+  pub below-16 : (k : ℕ) → faultAt f k ≡ Nowhere → k < 16
+  below-16 k e = let w = warrior-ok k e in omega (arith, w .below, w .head .high)
 
 -- the parts handed back, as the code cuts them
 module _ (f : List ℕ) (k : ℕ) where

@@ -2,3 +2,4 @@ pub mod Stores
 pub mod Lines
 pub mod Checks
 pub mod Added
+pub mod Examples

@@ -17,15 +17,15 @@ use Rattle.match_file.specs.Format.{Warrior, line, lines, bodies, file}
 use Rattle.match_file.specs.Faults.{faultAt}
 use Rattle.match_file.specs.Reading.{zeroed, emptied, countOf, warriorAt, warriorOf, warriorsAt}
 use Rattle.match_file.proofs.Parts.{length-part}
-use Rattle.match_file.proofs.Whole.{Kth, warrior-ok}
+use Rattle.match_file.proofs.Whole.{LineAt, warrior-ok}
 use Rattle.match_file.proofs.Format.{Short, lineOf, length-line, length-lines, file-more}
 use Rattle.match_file.proofs.Warriors.{length-body, count-is}
-use Rattle.match_write.proofs.Stores.{store-then}
+use Rattle.match_write.proofs.Stores.{store-then, spelled-zero}
 
 -- a line, stored by a store and six calls
 pub line-stored : (l l1 l2 l3 l4 l5 l6 name : List ℕ) (p start count origin place : ℕ) → length name ≤ 32
     → l1 ≡ sets (set l p (length name)) (p + 1) name
-    → l2 ≡ sets l1 (p + 1 + length name) (replicate (32 - length name) 0)
+    → l2 ≡ sets l1 (p + 1 + length name) (spelled (32 - length name) 0)
     → l3 ≡ sets l2 (p + 33) (spelled 4 start)
     → l4 ≡ sets l3 (p + 37) (spelled 2 count)
     → l5 ≡ sets l4 (p + 39) (spelled 2 origin)
@@ -42,7 +42,7 @@ line-stored l l1 l2 l3 l4 l5 l6 name p start count origin place h e1 e2 e3 e4 e5
     sym
     (ap (λ (q : ℕ). sets (set l p (length name)) q (name ++ (zeros ++ from-start))) (sym (add-one p))
     ∙ store-then (set l p (length name)) l1 name (zeros ++ from-start) (p + 1) (p + 1 + length name) e1 refl
-    ∙ store-then l1 l2 zeros from-start (p + 1 + length name) (p + 33) e2 k
+    ∙ store-then l1 l2 zeros from-start (p + 1 + length name) (p + 33) (e2 ∙ ap (sets l1 (p + 1 + length name)) (spelled-zero (32 - length name))) k
     ∙ store-then l2 l3 (spelled 4 start) from-count (p + 33) (p + 37) e3 (omega arith)
     ∙ store-then l3 l4 (spelled 2 count) from-origin (p + 37) (p + 39) e4 (omega arith)
     ∙ store-then l4 l5 (spelled 2 origin) from-place (p + 39) (p + 41) e5 (omega arith)
@@ -56,7 +56,7 @@ module _ (f : List ℕ) (i : ℕ) (e : faultAt f i ≡ Nowhere) where
   read-part : {r xs : List ℕ} → r ≡ emptied (faultAt f i) xs → r ≡ xs
   read-part {xs = xs} d = d ∙ ap (λ (x : Fault). emptied x xs) e
 
-  its : Kth f (4 + 43 * i)
+  its : LineAt f (4 + 43 * i)
   its = warrior-ok f i e .its
 
   short-name : length (warriorOf f i .name) ≤ 32
@@ -83,7 +83,7 @@ module _ (f : List ℕ) (i : ℕ) (e : faultAt f i ≡ Nowhere) where
       in
       ap (λ (x : ℕ). sets out q (lines to (warriorsAt f q x))) (fall n i h)
       ∙ store-then out out′ (lineOf w to) (lines (to + length (w .body)) (warriorsAt f (q + 43) (n - (i + 1)))) q (q + 43) (s ∙ ap (sets out q) k)
-      (ap (λ (x : ℕ). q + x) (length-line (w .name) to (instructions (w .body)) (w .origin) (w .place) short-name))
+      (ap (λ (x : ℕ). q + x) (length-line w to short-name))
       ∙ ap₂ (λ (x y : ℕ). sets out′ y (lines (to + x) (warriorsAt f y (n - (i + 1))))) (sym (its-count ec)) z
 
   -- the next body's start, and the bodies left
@@ -126,6 +126,6 @@ module _ (size n : ℕ) (ws : List Warrior) (w : Warrior) (h : length ws ≡ n) 
       ∙ store-then (set out 0 (n + 1)) l1 (spelled 2 size) (0 ∷ (ls ++ (l ++ bs))) 1 3 e1 refl
       ∙ store-then (set l1 3 0) l2 ls (l ++ bs) 4 (4 + 43 * n) e2 (ap (λ (x : ℕ). 4 + x) (length-lines p ws short ∙ ap (λ (x : ℕ). 43 * x) h))
       ∙ store-then l2 l3 l bs (4 + 43 * n) p (e3 ∙ ap₂ (λ (x y : ℕ). sets l2 (4 + 43 * n) (line (w .name) x y (w .origin) (w .place))) et ec)
-      (ap (λ (x : ℕ). 4 + 43 * n + x) (length-line (w .name) (p + length (bodies ws)) (instructions (w .body)) (w .origin) (w .place) name) ∙ z)
+      (ap (λ (x : ℕ). 4 + 43 * n + x) (length-line w (p + length (bodies ws)) name) ∙ z)
       ∙ store-then l3 l4 (bodies ws) (w .body) p (p + length rest) (e4 ∙ ap (λ (x : List ℕ). sets l3 p x) er) (ap (λ (x : List ℕ). p + length x) (sym er))
       ∙ sym e5)

@@ -1,8 +1,8 @@
 -- Bytes stored part by part: what is left to store before a call or a loop's turn is what is left after it.
 -- Assumes nothing.
-use mathlib.Core.Path.{_≡_, sym, ap, _∙_}
+use mathlib.Core.Path.{_≡_, refl, sym, ap, _∙_}
 use mathlib.Core.List.{List, [], _∷_, _++_}
-use Prim.Native.Nat.{ℕ, suc, _+_, _-_, _/_, _%_, _≤_, _<_}
+use Prim.Native.Nat.{ℕ, zero, suc, _+_, _-_, _/_, _%_, _≤_, _<_}
 use native.Mathlib.Nat.{add-zero, zero-add}
 use native.Mathlib.Numerals.{add-one}
 use native.Mathlib.Omega.{arith}
@@ -35,6 +35,7 @@ pub copy-turn : (out bytes : List ℕ) (p i : ℕ) → i < length bytes
     → sets out (p + i) (drop i bytes) ≡ sets (set out (p + i) (getD bytes i 0)) (p + (i + 1)) (drop (i + 1) bytes)
 copy-turn out bytes p i h = rw (← next p i, add-one i, drop-cons bytes i 0 h)
 
-pub clear-turn : (out : List ℕ) (p k i : ℕ) → i < k
-    → sets out (p + i) (replicate (k - i) 0) ≡ sets (set out (p + i) 0) (p + (i + 1)) (replicate (k - (i + 1)) 0)
-clear-turn out p k i h = rw (← next p i, fall k i h)
+-- the bytes of 0
+pub spelled-zero : (k : ℕ) → spelled k 0 ≡ replicate k 0
+spelled-zero zero = refl
+spelled-zero (suc k) = ap (λ (bs : List ℕ). 0 ∷ bs) (spelled-zero k)

@@ -2,7 +2,7 @@
 ghost use mathlib.Core.Path.{_≡_};
 ghost use mathlib.Core.List.{_++_, _∷_, []};
 ghost use Prim.Native.Nat.{_+_, _-_, _*_, _≤_};
-ghost use lib.ListN.{length, replicate};
+ghost use lib.ListN.{length};
 ghost use lib.Seq.{sets};
 ghost use Rattle.program.specs.Bytes.{spelled};
 ghost use Rattle.match_file.specs.Format.{warrior, line, lines, bodies};
@@ -39,18 +39,6 @@ fn copy(out: &mut [u8], at: usize, bytes: &[u8])
     }
 }
 
-// Stores k zeros.
-fn clear(out: &mut [u8], at: usize, k: usize)
-    requires { ⌜ at + k ≤ length (now out) ⌝ }
-    ensures { λ _. ⌜ now (out .exit) ≡ sets (now (out .entry)) at (replicate k 0) ⌝ }
-{
-    let mut i: usize = 0;
-    while i < k {
-        out[at + i] = 0;
-        i += 1;
-    }
-}
-
 // Stores a line of the contents.
 fn put_line(
     out: &mut [u8],
@@ -69,7 +57,7 @@ fn put_line(
     let first = at + 1;
     copy(out, first, name);
     let padding = first + size;
-    clear(out, padding, 32 - size);
+    put(out, padding, 32 - size, 0);
     put(out, at + 33, 4, start as u64);
     put(out, at + 37, 2, count as u64);
     put(out, at + 39, 2, origin as u64);

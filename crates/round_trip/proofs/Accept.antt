@@ -24,7 +24,7 @@ use Rattle.match_file.specs.Reading.{warriorsAt}
 use Rattle.match_file.proofs.Parts.{length-part}
 use Rattle.match_file.proofs.Numbers.{number-lt}
 use Rattle.match_file.proofs.Chains.{all-right}
-use Rattle.match_file.proofs.Whole.{first-line, later-lines, lines-start, Kth}
+use Rattle.match_file.proofs.Whole.{first-line, later-lines, lines-start, LineAt}
 use Rattle.match_file.proofs.Warriors.{length-body, count-is}
 use Rattle.match_write.specs.Writing.{settle, checks}
 
@@ -77,8 +77,16 @@ module _ (size : ℕ) (ws : List Warrior) (w : Warrior) (room : ℕ) where
 
   pub accept : Passed size w → length ws < 16 → length (file size (ws ++ (w ∷ []))) ≤ room → first (checks size ws w room) ≡ accepted
   accept k h l =
-      simp
-      (le-leb 1 size (k .low), le-leb size 46341 (k .high), le-ltb size (instructions (w .body)) (k .count), k .codes, k .name, lt-leb size (w .place) (k .place), lt-leb 16 (length ws) h, le-ltb room (length (file size (ws ++ (w ∷ [])))) l)
+      simp (
+        le-leb 1 size (k .low),
+        le-leb size 46341 (k .high),
+        le-ltb size (instructions (w .body)) (k .count),
+        k .codes,
+        k .name,
+        lt-leb size (w .place) (k .place),
+        lt-leb 16 (length ws) h,
+        le-ltb room (length (file size (ws ++ (w ∷ [])))) l,
+      )
 
 -- a warrior that passed fits a file
 pub fits-passed : (size : ℕ) (w : Warrior) → Passed size w → w .origin < 65536 → Fits w
@@ -97,7 +105,7 @@ fits-read f p s zero b e = tt
 fits-read f p s (suc n) b e =
     let o = first-line f p s n e in
     let m : ℕ = s + 12 * number f (p + 37) 2 in
-    let k : Kth f p = record { start = s; line = o; ends = lines-start f (p + 43) m n (later-lines f p s n e) } in
+    let k : LineAt f p = record { start = s; line = o; ends = lines-start f (p + 43) m n (later-lines f p s n e) } in
     let z : ℕ = getD f p 0 in
     let g : p + 43 ≤ length f = o .fits in
     let h : z ≤ 32 = o .short in

@@ -15,7 +15,7 @@ use Rattle.match_file.proofs.Parts.{length-part, part-add, part-first}
 use Rattle.match_file.proofs.Numbers.{spelled-number}
 use Rattle.match_file.proofs.Chains.{all-right, all-zero}
 use Rattle.match_file.proofs.Lines.{LineOk}
-use Rattle.match_file.proofs.Whole.{head-ok, first-line, later-lines, lines-start, Kth}
+use Rattle.match_file.proofs.Whole.{head-ok, first-line, later-lines, lines-start, LineAt}
 use Rattle.match_file.proofs.Warriors.{length-warriors, length-body, count-is, bodies-are}
 
 module _ (f : List ℕ) (b : Bytes f) where
@@ -23,34 +23,33 @@ module _ (f : List ℕ) (b : Bytes f) where
   from : (p k : ℕ) → drop p f ≡ part f p k ++ drop (p + k) f
   from p k = sym (ap (λ (r : List ℕ). part f p k ++ r) (sym (drop-drop k p f)) ∙ take-append-drop k (drop p f))
 
+  -- two parts, one after the other
+  joined : (p j k q : ℕ) {xs ys : List ℕ} → xs ≡ part f p j → ys ≡ part f q k → q ≡ p + j → xs ++ ys ≡ part f p (j + k)
+  joined p j k q xs ys e = ap₂ (λ (a c : List ℕ). a ++ c) xs (ys ∙ ap (λ (x : ℕ). part f x k) e) ∙ sym (part-add f p j k)
+
   -- a line
   line-again : (p s : ℕ) → LineOk f p s
       → line (part f (p + 1) (getD f p 0)) s (number f (p + 37) 2) (number f (p + 39) 2) (number f (p + 41) 2) ≡ part f p 43
   unfolding line
   line-again p s k =
-      let z : ℕ = getD f p 0 in
-      let nm : List ℕ = part f (p + 1) z in
-      let h : z ≤ 32 = k .short in
-      let g : p + 43 ≤ length f = k .fits in
-      let ln : length nm ≡ z = length-part f (p + 1) z (omega arith) in
-      let lp : length (part f (p + 1 + z) (32 - z)) ≡ 32 - z = length-part f (p + 1 + z) (32 - z) (omega arith) in
-      let pad : replicate (32 - length nm) 0 ≡ part f (p + 1 + z) (32 - z)
-      = ap (λ (x : ℕ). replicate (32 - x) 0) ln ∙ ap (λ (x : ℕ). replicate x 0) (sym lp) ∙ sym (all-zero (part f (p + 1 + z) (32 - z)) (all-right (within 0 0) (p + 1 + z) (part f (p + 1 + z) (32 - z)) (k .padding)))
+      let size : ℕ = getD f p 0 in
+      let short : size ≤ 32 = k .short in
+      let fits : p + 43 ≤ length f = k .fits in
+      let name : length (part f (p + 1) size) ≡ size = length-part f (p + 1) size (omega arith) in
+      let zeros : List ℕ = part f (p + 1 + size) (32 - size) in
+      let padding : replicate (32 - length (part f (p + 1) size)) 0 ≡ zeros
+      = ap (λ (x : ℕ). replicate (32 - x) 0) name
+      ∙ ap (λ (x : ℕ). replicate x 0) (sym (length-part f (p + 1 + size) (32 - size) (omega arith)))
+      ∙ sym (all-zero zeros (all-right (within 0 0) (p + 1 + size) zeros (k .padding)))
       in
-      let n4 : spelled 4 s ≡ part f (p + 33) 4 = ap (spelled 4) (sym (k .start)) ∙ spelled-number f (p + 33) 4 b (omega arith) in
-      let n6 : spelled 2 (number f (p + 37) 2) ≡ part f (p + 37) 2 = spelled-number f (p + 37) 2 b (omega arith) in
-      let n8 : spelled 2 (number f (p + 39) 2) ≡ part f (p + 39) 2 = spelled-number f (p + 39) 2 b (omega arith) in
-      let n10 : spelled 2 (number f (p + 41) 2) ≡ part f (p + 41) 2 = spelled-number f (p + 41) 2 b (omega arith) in
-      let t8 : spelled 2 (number f (p + 39) 2) ++ spelled 2 (number f (p + 41) 2) ≡ part f (p + 39) 4 = ap₂ (λ (x y : List ℕ). x ++ y) n8 (n10 ∙ at (p + 39) 2 (p + 41) 2 (omega arith)) ∙ sym (part-add f (p + 39) 2 2) in
-      let t6 = ap₂ (λ (x y : List ℕ). x ++ y) n6 (t8 ∙ at (p + 37) 2 (p + 39) 4 (omega arith)) ∙ sym (part-add f (p + 37) 2 4) in
-      let t4 = ap₂ (λ (x y : List ℕ). x ++ y) n4 (t6 ∙ at (p + 33) 4 (p + 37) 6 (omega arith)) ∙ sym (part-add f (p + 33) 4 6) in
-      let tp = ap₂ (λ (x y : List ℕ). x ++ y) pad (t4 ∙ at (p + 1 + z) (32 - z) (p + 33) 10 (omega arith)) ∙ sym (part-add f (p + 1 + z) (32 - z) 10) in
-      let tn = ap (λ (y : List ℕ). nm ++ y) tp ∙ sym (part-add f (p + 1) z (32 - z + 10)) in
-      let e : z + (32 - z + 10) ≡ 42 = omega arith in
-      ap₂ (λ (x : ℕ) (y : List ℕ). x ∷ y) ln (tn ∙ ap (λ (x : ℕ). part f (p + 1) x) e) ∙ sym (part-first f p 42 (omega arith))
-    where
-      at : (q j r m : ℕ) → r ≡ q + j → part f r m ≡ part f (q + j) m
-      at q j r m d = ap (λ (x : ℕ). part f x m) d
+      let start : spelled 4 s ≡ part f (p + 33) 4 = ap (spelled 4) (sym (k .start)) ∙ spelled-number f (p + 33) 4 b (omega arith) in
+      let from-origin = joined (p + 39) 2 2 (p + 41) (spelled-number f (p + 39) 2 b (omega arith)) (spelled-number f (p + 41) 2 b (omega arith)) (omega arith) in
+      let from-count = joined (p + 37) 2 4 (p + 39) (spelled-number f (p + 37) 2 b (omega arith)) from-origin (omega arith) in
+      let from-start = joined (p + 33) 4 6 (p + 37) start from-count (omega arith) in
+      let from-padding = joined (p + 1 + size) (32 - size) 10 (p + 33) padding from-start (omega arith) in
+      let from-name = joined (p + 1) size (32 - size + 10) (p + 1 + size) refl from-padding refl in
+      let e : size + (32 - size + 10) ≡ 42 = omega arith in
+      ap₂ (λ (x : ℕ) (y : List ℕ). x ∷ y) name (from-name ∙ ap (part f (p + 1)) e) ∙ sym (part-first f p 42 (omega arith))
 
   -- the lines
   lines-again : (p s n : ℕ) → linesFault f p s n ≡ Nowhere → lines s (warriorsAt f p n) ≡ part f p (43 * n)
@@ -58,7 +57,7 @@ module _ (f : List ℕ) (b : Bytes f) where
   lines-again p s (suc n) e =
       let o = first-line f p s n e in
       let m : ℕ = s + 12 * number f (p + 37) 2 in
-      let k : Kth f p = record { start = s; line = o; ends = lines-start f (p + 43) m n (later-lines f p s n e) } in
+      let k : LineAt f p = record { start = s; line = o; ends = lines-start f (p + 43) m n (later-lines f p s n e) } in
       let bd : List ℕ = part f (number f (p + 33) 4) (12 * number f (p + 37) 2) in
       let nm : List ℕ = part f (p + 1) (getD f p 0) in
       let z : 43 + 43 * n ≡ 43 * suc n = omega arith in

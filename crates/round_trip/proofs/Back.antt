@@ -52,7 +52,8 @@ module _ (name : List ℕ) (s c o q : ℕ) (r : List ℕ) (h : length name ≤ 3
   at-tail : (i k : ℕ) → part (line name s c o q ++ r) (33 + i) k ≡ part tail i k
   at-tail i k =
       let n : List ℕ = name ++ pad in
-      let l : length n ≡ 32 = length-append name pad ∙ ap (λ (x : ℕ). length name + x) (length-replicate (32 - length name) 0) ∙ (let z : length name + (32 - length name) ≡ 32 = omega arith in z) in
+      let z : length name + (32 - length name) ≡ 32 = omega arith in
+      let l : length n ≡ 32 = length-append name pad ∙ ap (λ (x : ℕ). length name + x) (length-replicate (32 - length name) 0) ∙ z in
       let e : 33 + i ≡ suc (length n + i) = omega arith in
       ap₂ (λ (x : List ℕ) (y : ℕ). part x y k) (spread ∙ ap (λ (x : List ℕ). length name ∷ x) (sym (append-assoc name pad tail))) e
       ∙ part-past n tail i k
@@ -86,7 +87,7 @@ module _ (f : List ℕ) (p s : ℕ) (w : Warrior) (r : List ℕ) (t : Fits w) (b
   has =
       let n : List ℕ = w .name in
       let c : ℕ = instructions (w .body) in
-      let z : length (drop p f) ≡ 43 + length r = ap length e ∙ length-append l r ∙ ap (λ (x : ℕ). x + length r) (length-line n s c (w .origin) (w .place) short) in
+      let z : length (drop p f) ≡ 43 + length r = ap length e ∙ length-append l r ∙ ap (λ (x : ℕ). x + length r) (length-line w s short) in
       let y : p + 1 + length n ≡ p + (1 + length n) = omega arith in
       record {
         fits = omega (arith, length-drop p f);
@@ -135,7 +136,7 @@ module _ (f : List ℕ) where
       let g = has f p s w x (t .0) (omega arith) e1 in
       let k : s + 12 * number f (p + 37) 2 ≡ m = omega (arith, g .count, t .0 .body) in
       let z : length f - s ≡ length (w .body) + length (bodies ws) = sym (length-drop s f) ∙ ap length d ∙ length-append (w .body) (bodies ws) in
-      let e2 : drop (p + 43) f ≡ x = sym (drop-drop 43 p f) ∙ ap (drop 43) e1 ∙ drop-at l x 43 (length-line (w .name) s (instructions (w .body)) (w .origin) (w .place) (valid-name (w .name) (t .0 .name) .0)) in
+      let e2 : drop (p + 43) f ≡ x = sym (drop-drop 43 p f) ∙ ap (drop 43) e1 ∙ drop-at l x 43 (length-line w s (valid-name (w .name) (t .0 .name) .0)) in
       let d2 : drop m f ≡ bodies ws = sym (drop-drop (length (w .body)) s f) ∙ ap (drop (length (w .body))) d ∙ drop-at (w .body) (bodies ws) (length (w .body)) refl in
       let c : length (w .body) ≤ 786420 = omega (arith, t .0 .body, t .0 .count) in
       let u = lines-back (p + 43) m ws r (t .1) e2 d2 (omega arith) (omega arith) in (

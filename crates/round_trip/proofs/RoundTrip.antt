@@ -13,7 +13,7 @@ use Rattle.match_file.specs.Format.{Warrior, bodies, file, AllFit}
 use Rattle.match_file.specs.Faults.{fault}
 use Rattle.match_file.specs.Reading.{sizeIn, warriorsIn, warriorsOf, warriorOf}
 use Rattle.match_file.proofs.Numbers.{number-lt}
-use Rattle.match_file.proofs.Whole.{head-ok, kth}
+use Rattle.match_file.proofs.Whole.{head-ok, line-at}
 use Rattle.match_file.proofs.Format.{length-file, bodies-append}
 use Rattle.match_file.proofs.Warriors.{length-warriors, warrior-at, count-is}
 use Rattle.match_write.specs.Writing.{checks}
@@ -34,7 +34,7 @@ reads {f} {size} {ws} a =
       line = λ k h. rw (a .sound, lt-ltb k (warriorsIn f) (omega (arith, how-many)));
       warrior = each;
       count = λ k h.
-          let k′ = kth f 4 (4 + 43 * warriorsIn f) (warriorsIn f) k (head-ok f (a .sound) .lines) (omega (arith, how-many)) in
+          let k′ = line-at f 4 (4 + 43 * warriorsIn f) (warriorsIn f) k (head-ok f (a .sound) .lines) (omega (arith, how-many)) in
           sym (count-is f (4 + 43 * k) k′) ∙ ap (λ (w : Warrior). instructions (w .body)) (each k h);
     }
   where

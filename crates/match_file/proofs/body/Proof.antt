@@ -3,7 +3,7 @@
 use borrow.Author.Needs.{needs}
 use native.Mathlib.Omega.{arith}
 use mathlib.Core.Path.{sym, _∙_}
-use Rattle.match_file.proofs.Whole.{warrior-ok, no-part, its-body}
+use Rattle.match_file.proofs.Whole.{warrior-ok, below-16, no-part, its-body}
 use Rattle.match_file.proofs.body.Statement.{statement}
 use Rattle.match_file.proofs.body.Tie as tie
 
@@ -20,13 +20,13 @@ enum-told-2 : tie.Need-enum-told-2
 enum-told-2 c = search needs
 
 mul-at : tie.Need-mul-at
-mul-at c = let w = warrior-ok _ _ (sym (c .before .before .first-fault-at .ensures) ∙ c .enum-told2 .given .1) in omega (arith, w .below, w .head .high)
+mul-at c = omega (arith, below-16 _ _ (sym (c .before .before .first-fault-at .ensures) ∙ c .enum-told2 .given .1))
 
 add-at : tie.Need-add-at
-add-at c = let w = warrior-ok _ _ (sym (c .before .before .first-fault-at .ensures) ∙ c .enum-told2 .given .1) in omega (arith, w .below, w .head .high)
+add-at c = omega (arith, below-16 _ _ (sym (c .before .before .first-fault-at .ensures) ∙ c .enum-told2 .given .1))
 
 add-number32 : tie.Need-add-number32
-add-number32 c = let w = warrior-ok _ _ (sym (c .before .before .first-fault-at .ensures) ∙ c .enum-told2 .given .1) in omega (arith, w .below, w .head .high)
+add-number32 c = omega (arith, below-16 _ _ (sym (c .before .before .first-fault-at .ensures) ∙ c .enum-told2 .given .1))
 
 number32-requires : tie.Need-number32-requires
 number32-requires c κs = let w = warrior-ok _ _ (sym (c .before .before .first-fault-at .ensures) ∙ c .enum-told2 .given .1) in omega (arith, w .its .line .fits)
@@ -35,7 +35,7 @@ cast-start : tie.Need-cast-start
 cast-start c = search needs
 
 add-number16 : tie.Need-add-number16
-add-number16 c = let w = warrior-ok _ _ (sym (c .before .before .before .first-fault-at .ensures) ∙ c .before .enum-told2 .given .1) in omega (arith, w .below, w .head .high)
+add-number16 c = omega (arith, below-16 _ _ (sym (c .before .before .before .first-fault-at .ensures) ∙ c .before .enum-told2 .given .1))
 
 number16-requires : tie.Need-number16-requires
 number16-requires c κs = let w = warrior-ok _ _ (sym (c .before .before .before .first-fault-at .ensures) ∙ c .before .enum-told2 .given .1) in omega (arith, w .its .line .fits)

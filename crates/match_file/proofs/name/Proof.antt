@@ -4,7 +4,7 @@ use borrow.Author.Needs.{needs}
 use native.Mathlib.Omega.{arith}
 use mathlib.Core.Path.{sym, _∙_}
 use Prim.Native.Nat.{_+_, _*_}
-use Rattle.match_file.proofs.Whole.{warrior-ok, no-part, its-name}
+use Rattle.match_file.proofs.Whole.{warrior-ok, below-16, no-part, its-name}
 use Rattle.match_file.proofs.name.Statement.{statement}
 use Rattle.match_file.proofs.name.Tie as tie
 
@@ -21,13 +21,13 @@ enum-told-2 : tie.Need-enum-told-2
 enum-told-2 c = search needs
 
 mul-at : tie.Need-mul-at
-mul-at c = let w = warrior-ok _ _ (sym (c .before .before .first-fault-at .ensures) ∙ c .enum-told2 .given .1) in omega (arith, w .below, w .head .high)
+mul-at c = omega (arith, below-16 _ _ (sym (c .before .before .first-fault-at .ensures) ∙ c .enum-told2 .given .1))
 
 add-at : tie.Need-add-at
-add-at c = let w = warrior-ok _ _ (sym (c .before .before .first-fault-at .ensures) ∙ c .enum-told2 .given .1) in omega (arith, w .below, w .head .high)
+add-at c = omega (arith, below-16 _ _ (sym (c .before .before .first-fault-at .ensures) ∙ c .enum-told2 .given .1))
 
 add-first : tie.Need-add-first
-add-first c = let w = warrior-ok _ _ (sym (c .before .before .first-fault-at .ensures) ∙ c .enum-told2 .given .1) in omega (arith, w .below, w .head .high)
+add-first c = omega (arith, below-16 _ _ (sym (c .before .before .first-fault-at .ensures) ∙ c .enum-told2 .given .1))
 
 shared-slice-read-end : tie.Need-shared-slice-read-end
 shared-slice-read-end c = let w = warrior-ok _ _ (sym (c .before .before .before .first-fault-at .ensures) ∙ c .before .enum-told2 .given .1) in omega (arith, w .its .line .fits)
@@ -36,7 +36,7 @@ cast-end : tie.Need-cast-end
 cast-end c = omega (arith, c .shared-slice-known2 .given (4 + 43 * c .before .before .before .before .before .args .number))
 
 add-end : tie.Need-add-end
-add-end c = let w = warrior-ok _ _ (sym (c .before .before .before .first-fault-at .ensures) ∙ c .before .enum-told2 .given .1) in omega (arith, w .below, w .head .high, w .its .line .short)
+add-end c = let e = (sym (c .before .before .before .first-fault-at .ensures) ∙ c .before .enum-told2 .given .1) in omega (arith, below-16 _ _ e, warrior-ok _ _ e .its .line .short)
 
 sub-result : tie.Need-sub-result
 sub-result c = search needs

@@ -3,7 +3,7 @@
 use borrow.Author.Needs.{needs}
 use native.Mathlib.Omega.{arith}
 use mathlib.Core.Path.{refl, sym, _∙_}
-use Rattle.match_file.proofs.Whole.{warrior-ok}
+use Rattle.match_file.proofs.Whole.{warrior-ok, below-16}
 use Rattle.match_file.proofs.read_line.Statement.{statement}
 use Rattle.match_file.proofs.read_line.Tie as tie
 
@@ -17,25 +17,25 @@ enum-told : tie.Need-enum-told
 enum-told c = search needs
 
 mul-at : tie.Need-mul-at
-mul-at c = let w = warrior-ok _ _ (sym (c .before .before .first-fault-at .ensures) ∙ c .enum-told .given .1) in omega (arith, w .below, w .head .high)
+mul-at c = omega (arith, below-16 _ _ (sym (c .before .before .first-fault-at .ensures) ∙ c .enum-told .given .1))
 
 add-at : tie.Need-add-at
-add-at c = let w = warrior-ok _ _ (sym (c .before .before .first-fault-at .ensures) ∙ c .enum-told .given .1) in omega (arith, w .below, w .head .high)
+add-at c = omega (arith, below-16 _ _ (sym (c .before .before .first-fault-at .ensures) ∙ c .enum-told .given .1))
 
 add-number16 : tie.Need-add-number16
-add-number16 c = let w = warrior-ok _ _ (sym (c .before .before .first-fault-at .ensures) ∙ c .enum-told .given .1) in omega (arith, w .below, w .head .high)
+add-number16 c = omega (arith, below-16 _ _ (sym (c .before .before .first-fault-at .ensures) ∙ c .enum-told .given .1))
 
 number16-requires : tie.Need-number16-requires
 number16-requires c κs = let w = warrior-ok _ _ (sym (c .before .before .first-fault-at .ensures) ∙ c .enum-told .given .1) in omega (arith, w .its .line .fits)
 
 add-number16-2 : tie.Need-add-number16-2
-add-number16-2 c = let w = warrior-ok _ _ (sym (c .before .before .before .first-fault-at .ensures) ∙ c .before .enum-told .given .1) in omega (arith, w .below, w .head .high)
+add-number16-2 c = omega (arith, below-16 _ _ (sym (c .before .before .before .first-fault-at .ensures) ∙ c .before .enum-told .given .1))
 
 number16-requires-2 : tie.Need-number16-requires-2
 number16-requires-2 c κs = let w = warrior-ok _ _ (sym (c .before .before .before .first-fault-at .ensures) ∙ c .before .enum-told .given .1) in omega (arith, w .its .line .fits)
 
 add-number16-3 : tie.Need-add-number16-3
-add-number16-3 c = let w = warrior-ok _ _ (sym (c .before .before .before .before .first-fault-at .ensures) ∙ c .before .before .enum-told .given .1) in omega (arith, w .below, w .head .high)
+add-number16-3 c = omega (arith, below-16 _ _ (sym (c .before .before .before .before .first-fault-at .ensures) ∙ c .before .before .enum-told .given .1))
 
 number16-requires-3 : tie.Need-number16-requires-3
 number16-requires-3 c κs = let w = warrior-ok _ _ (sym (c .before .before .before .before .first-fault-at .ensures) ∙ c .before .before .enum-told .given .1) in omega (arith, w .its .line .fits)

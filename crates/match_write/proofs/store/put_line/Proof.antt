@@ -23,35 +23,35 @@ copy-requires c κs = simp length-set (omega arith)
 add-padding : tie.Need-add-padding
 add-padding c = search needs
 
-sub-clear : tie.Need-sub-clear
-sub-clear c = search needs
+sub-put : tie.Need-sub-put
+sub-put c = search needs
 
-clear-requires : tie.Need-clear-requires
-clear-requires c κs = omega (arith, simp length-set at (c .before .before .out .given))
+put-requires : tie.Need-put-requires
+put-requires c κs = omega (arith, simp length-set at (c .before .before .out .given))
 
 add-put : tie.Need-add-put
 add-put c = search needs
 
-put-requires : tie.Need-put-requires
-put-requires c κs = omega (arith, simp length-set at (c .before .before .before .before .before .before .out .given), c .before .before .out2 .given)
+put-requires-2 : tie.Need-put-requires-2
+put-requires-2 c κs = omega (arith, simp length-set at (c .before .before .before .before .before .before .out .given), c .before .before .out2 .given)
 
 add-put-2 : tie.Need-add-put-2
 add-put-2 c = search needs
 
-put-requires-2 : tie.Need-put-requires-2
-put-requires-2 c κs = omega (arith, simp length-set at (c .before .before .before .before .before .before .before .before .before .before .out .given), c .before .before .before .before .before .before .out2 .given, c .before .before .out3 .given)
+put-requires-3 : tie.Need-put-requires-3
+put-requires-3 c κs = omega (arith, simp length-set at (c .before .before .before .before .before .before .before .before .before .before .out .given), c .before .before .before .before .before .before .out2 .given, c .before .before .out3 .given)
 
 add-put-3 : tie.Need-add-put-3
 add-put-3 c = search needs
 
-put-requires-3 : tie.Need-put-requires-3
-put-requires-3 c κs = omega (arith, simp length-set at (c .before .before .before .before .before .before .before .before .before .before .before .before .before .before .out .given), c .before .before .before .before .before .before .before .before .before .before .out2 .given, c .before .before .before .before .before .before .out3 .given, c .before .before .out4 .given)
+put-requires-4 : tie.Need-put-requires-4
+put-requires-4 c κs = omega (arith, simp length-set at (c .before .before .before .before .before .before .before .before .before .before .before .before .before .before .out .given), c .before .before .before .before .before .before .before .before .before .before .out2 .given, c .before .before .before .before .before .before .out3 .given, c .before .before .out4 .given)
 
 add-put-4 : tie.Need-add-put-4
 add-put-4 c = search needs
 
-put-requires-4 : tie.Need-put-requires-4
-put-requires-4 c κs = omega (arith, simp length-set at (c .before .before .before .before .before .before .before .before .before .before .before .before .before .before .before .before .before .before .out .given), c .before .before .before .before .before .before .before .before .before .before .before .before .before .before .out2 .given, c .before .before .before .before .before .before .before .before .before .before .out3 .given, c .before .before .before .before .before .before .out4 .given, c .before .before .out5 .given)
+put-requires-5 : tie.Need-put-requires-5
+put-requires-5 c κs = omega (arith, simp length-set at (c .before .before .before .before .before .before .before .before .before .before .before .before .before .before .before .before .before .before .out .given), c .before .before .before .before .before .before .before .before .before .before .before .before .before .before .out2 .given, c .before .before .before .before .before .before .before .before .before .before .out3 .given, c .before .before .before .before .before .before .out4 .given, c .before .before .out5 .given)
 
 same-length : tie.Need-same-length
 same-length c = c .before .out6 .given ∙ c .before .before .before .before .before .out5 .given ∙ c .before .before .before .before .before .before .before .before .before .out4 .given ∙ c .before .before .before .before .before .before .before .before .before .before .before .before .before .out3 .given ∙ c .before .before .before .before .before .before .before .before .before .before .before .before .before .before .before .before .before .out2 .given ∙ simp length-set at (c .before .before .before .before .before .before .before .before .before .before .before .before .before .before .before .before .before .before .before .before .before .out .given)
@@ -60,11 +60,11 @@ returns : tie.Need-returns
 returns c =
     line-stored _ _ _ _ _ _ _ _ _ _ _ _ _ (c .before .before .before .before .before .before .before .before .before .before .before .before .before .before .before .before .before .before .before .before .before .before .before .before .before .before .pre .0)
     (c .before .before .before .before .before .before .before .before .before .before .before .before .before .before .before .before .before .before .before .before .before .before .copy .ensures)
-    (c .before .before .before .before .before .before .before .before .before .before .before .before .before .before .before .before .before .before .clear .ensures)
-    (c .before .before .before .before .before .before .before .before .before .before .before .before .before .before .put .ensures)
-    (c .before .before .before .before .before .before .before .before .before .before .put2 .ensures)
-    (c .before .before .before .before .before .before .put3 .ensures)
-    (c .before .before .put4 .ensures)
+    (c .before .before .before .before .before .before .before .before .before .before .before .before .before .before .before .before .before .before .put .ensures)
+    (c .before .before .before .before .before .before .before .before .before .before .before .before .before .before .put2 .ensures)
+    (c .before .before .before .before .before .before .before .before .before .before .put3 .ensures)
+    (c .before .before .before .before .before .before .put4 .ensures)
+    (c .before .before .put5 .ensures)
 
 pub put-line-spec : {M : Type 1} → statement M
 put-line-spec =
@@ -75,15 +75,15 @@ put-line-spec =
     add-first
     copy-requires
     add-padding
-    sub-clear
-    clear-requires
-    add-put
+    sub-put
     put-requires
-    add-put-2
+    add-put
     put-requires-2
-    add-put-3
+    add-put-2
     put-requires-3
-    add-put-4
+    add-put-3
     put-requires-4
+    add-put-4
+    put-requires-5
     same-length
     returns)
