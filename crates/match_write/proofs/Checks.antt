@@ -22,7 +22,7 @@ use Rattle.match_file.specs.Reading.{warriorsAt}
 use Rattle.match_file.proofs.Format.{length-more}
 use Rattle.match_file.proofs.Warriors.{length-warriors, bodies-are, short-names}
 use Rattle.match_write.specs.Writing.{Given, given, settle, checks, write, Earlier}
-use Rattle.match_write.proofs.Stores.{stored}
+use Rattle.laws.proofs.Stores.{stored}
 
 pub refusing : {answer A : Answer} {n : ℕ} (out : List ℕ) {X : Given} → (answer ≡ A) × (n ≡ 0) → given A 0 out ≡ X → given answer n out ≡ X
 refusing out r e = ap₂ (λ (a : Answer) (k : ℕ). given a k out) (r .0) (r .1) ∙ e

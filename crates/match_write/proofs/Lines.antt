@@ -20,7 +20,8 @@ use Rattle.match_file.proofs.Parts.{length-part}
 use Rattle.match_file.proofs.Whole.{LineAt, warrior-ok}
 use Rattle.match_file.proofs.Format.{Short, lineOf, length-line, length-lines, file-more}
 use Rattle.match_file.proofs.Warriors.{length-body, count-is}
-use Rattle.match_write.proofs.Stores.{store-then, spelled-zero}
+use Rattle.laws.proofs.Stores.{store-then}
+use Rattle.match_write.proofs.Stores.{spelled-zero}
 
 -- a line, stored by a store and six calls
 pub line-stored : (l l1 l2 l3 l4 l5 l6 name : List ℕ) (p start count origin place : ℕ) → length name ≤ 32

@@ -7,7 +7,7 @@ use mathlib.Core.Path.{_≡_, refl, sym, _∙_}
 use Prim.Native.Nat.{_+_, _-_, _≤_, zero-le}
 use lib.ListN.{length, drop, drop-of-length-le}
 use lib.Seq.{sets}
-use Rattle.match_write.proofs.Stores.{copy-turn}
+use Rattle.laws.proofs.Stores.{copy-turn}
 use Rattle.match_write.proofs.store.copy.Statement.{statement}
 use Rattle.match_write.proofs.store.copy.Tie as tie
 
