@@ -7,7 +7,7 @@ use mathlib.Core.List.{List, [], _∷_, _++_}
 use native.Mathlib.Nat.{add-zero, add-assoc}
 use native.Mathlib.Omega.{arith}
 use lib.Dec.{eqb}
-use lib.ListN.{length, getD, length-append}
+use lib.ListN.{length, getD, drop, length-append, length-drop, length-take}
 use lib.Seq.{sets}
 use borrow.Author.Tests.{eq-eqb, ne-eqb}
 use Rattle.answer.specs.Numbers.{Told}
@@ -32,9 +32,9 @@ refusal-short t {l = l} {n = n} {r = r} e other a b =
 -- 13: the number and its position
 pub refusal-long : (t : Told) {w v : ℕ} {l m n o z : List ℕ} {q r s u : ℕ} → w ≡ t .number → w ≡ 13 → v ≡ t .value
     → Puts l m 0 q (decimal w) → Puts m n q r (32 ∷ []) → Puts n o r s (decimal v) → Puts o z s u (10 ∷ []) → Puts l z 0 u (text (refused t))
-refusal-long t {l = l} {z = z} {u = u} e is f a b c d =
+refusal-long t {v = v} {l = l} {z = z} {u = u} e is f a b c d =
     subst (Puts l z 0 u)
-    (ap (λ (k : ℕ). decimal k ++ (32 ∷ (decimal _ ++ (10 ∷ [])))) e
+    (ap (λ (k : ℕ). decimal k ++ (32 ∷ (decimal v ++ (10 ∷ [])))) e
     ∙ ap (λ (k : ℕ). decimal (t .number) ++ (32 ∷ (decimal k ++ (10 ∷ [])))) f
     ∙ ap (λ (x : Bool). decimal (t .number) ++ (cond x (32 ∷ decimal (t .value)) [] ++ (10 ∷ []))) (sym (eq-eqb (t .number) 13 (sym e ∙ is))))
     (then a (then b (then c d)))
@@ -44,16 +44,23 @@ pub run-text : {w number : ℕ} (steps writes : ℕ) (h : Header) {l m : List �
     → Puts l m 0 q (text (played number steps writes h))
 run-text steps writes h {l = l} {m = m} {q = q} e a = subst (λ (k : ℕ). Puts l m 0 q (text (played k steps writes h))) e a
 
+-- a name is a part of the names' bytes
+pub name-short : (h : Header) (i : ℕ) → length (h .names) ≡ 512 → length (nameAt h i) ≤ 512
+name-short h i e =
+    let all = length-drop (32 * i) (h .names) in
+    let some = length-take (getD (h .lengths) i 0) (drop (32 * i) (h .names)) in
+    omega arith
+
 -- the loop over the names, with i of them put
 pub record Left (h : Header) (l out : List ℕ) (p to i : ℕ) : Type 0 where
   pub inside : i ≤ h .held
   pub kept : length out ≡ length l
-  pub room : to + 280 * (h .held - i) ≤ length out
+  pub room : to + 540 * (h .held - i) ≤ length out
   pub bytes : sets l p (nameLines h 0 (h .held)) ≡ sets out to (nameLines h i (h .held - i))
   pub ends : p + length (nameLines h 0 (h .held)) ≡ to + length (nameLines h i (h .held - i))
 
 module _ (h : Header) (l : List ℕ) (p : ℕ) where
-  pub begun : p + 4480 ≤ length l → h .held ≤ 16 → Left h l l p p 0
+  pub begun : p + 8640 ≤ length l → h .held ≤ 16 → Left h l l p p 0
   begun room few =
       let all : h .held ≡ h .held - 0 = omega arith in
       record {
@@ -73,7 +80,7 @@ module _ (h : Header) (l : List ℕ) (p : ℕ) where
           to = sym (left .ends ∙ ap (λ (k : ℕ). to + length (nameLines h i k)) none ∙ add-zero to);
         }
 
-    pub turn : (name : List ℕ) (out′ : List ℕ) (to′ : ℕ) → i < h .held → name ≡ nameAt h i → length name ≤ 255
+    pub turn : (name : List ℕ) (out′ : List ℕ) (to′ : ℕ) → i < h .held → name ≡ nameAt h i → length name ≤ 512
         → Puts out out′ to to′ (lineOf name (getD (h .counts) i 0)) × (to′ ≤ to + length name + 22) → length out′ ≡ length out → Left h l out′ p to′ (i + 1)
     turn name out′ to′ below is short puts same =
         let one = fall (h .held) i below in

@@ -1,4 +1,5 @@
 // Puts what is printed into memory, part by part (01, 'Match file', `play`).
+ghost use mathlib.Core.Path.{_≡_};
 ghost use mathlib.Core.List.{[], _∷_};
 ghost use Prim.Native.Nat.{_+_, _≤_, _<_};
 ghost use lib.ListN.{length};
@@ -55,11 +56,19 @@ fn put_name(out: &mut [u8], at: usize, name: &[u8], count: u32) -> usize
     put_byte(out, counted, b'\n')
 }
 
+// The length of the names' bytes.
+fn sized(names: &[u8; 512])
+    ensures { λ _. ⌜ length (now (names .entry)) ≡ 512 ⌝ }
+{
+    let _names = &names[..];
+}
+
 // Puts the names held and their counts.
 fn put_names(out: &mut [u8], at: usize, h: Header) -> usize
-    requires { ⌜ (at + 4480 ≤ length (now out)) × (h .held ≤ 16) ⌝ }
+    requires { ⌜ (at + 8640 ≤ length (now out)) × (h .held ≤ 16) ⌝ }
     ensures { λ r. ⌜ Puts (now (out .entry)) (now (out .exit)) at r (spec.nameLines h 0 (h .held)) ⌝ }
 {
+    sized(&h.names);
     let held = h.held as usize;
     let mut to = at;
     let mut i: usize = 0;
@@ -88,7 +97,7 @@ fn put_refusal(out: &mut [u8], answer: Answer) -> usize
 
 // Puts the lines of a run: answer, steps and writes, then the names.
 fn put_run(out: &mut [u8], answer: Answer, steps: u64, writes: u64, h: Header) -> usize
-    requires { ⌜ (8192 ≤ length (now out)) × (h .held ≤ 16) ⌝ }
+    requires { ⌜ (16384 ≤ length (now out)) × (h .held ≤ 16) ⌝ }
     ensures { λ r. ⌜ Puts (now (out .entry)) (now (out .exit)) 0 r (spec.text (played (told answer .number) steps writes h)) ⌝ }
 {
     let numbered = put_decimal(out, 0, number(answer) as u64);

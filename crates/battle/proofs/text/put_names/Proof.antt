@@ -1,59 +1,66 @@
+-- `battle::text::put_names` meets its contract.
+-- Assumes nothing.
+use borrow.Author.Needs.{needs}
 use Rattle.battle.proofs.text.put_names.Statement.{statement}
 use Rattle.battle.proofs.text.put_names.Tie as tie
-use Rattle.battle.proofs.text.put_names.Reads as reads
-use Rattle.battle.proofs.text.put_names.Lts as lts
-use Rattle.battle.proofs.text.put_name.Reads as put-name-reads
-use Rattle.process.proofs.names.name_at.Reads as name-at-reads
+use mathlib.Core.Path.{ap}
+use Prim.Native.Nat.{_-_, _≤_}
+use native.Mathlib.Omega.{arith}
+use lib.ListN.{length}
+use Rattle.battle.proofs.Lines.{name-short, Left, begun, over, turn}
 
 abbrev Inv-loop : tie.InvT-loop
-Inv-loop out₀ at h held to₀ i₀ out to i = ?
+Inv-loop out₀ at h held to₀ i₀ out to i = Left h out₀ out at to i × (h .held ≤ 16)
 
 abbrev μ-loop : tie.MeasureT-loop
-μ-loop out₀ at h held to₀ i₀ out to i = ?
+μ-loop out₀ at h held to₀ i₀ out to i = h .held - i
 
--- src/text.rt:64:16
+sized-requires : tie.Need-sized-requires Inv-loop μ-loop
+sized-requires c κs = search needs
+
 cast-held : tie.Need-cast-held Inv-loop μ-loop
-cast-held c = ?
+cast-held c = search needs
 
--- src/text.rt:67:5
 loop-holds : tie.Need-loop-holds Inv-loop μ-loop
-loop-holds c = ?
+loop-holds c = (begun (c .before .before .before .before .args .t3) (c .before .before .before .before .args .out .now) (c .before .before .before .before .args .at) (c .before .before .before .before .pre .0) (c .before .before .before .before .pre .1), c .before .before .before .before .pre .1)
 
--- src/text.rt:68:21
 mul-count : tie.Need-mul-count Inv-loop μ-loop
-mul-count c = ?
+mul-count c = search needs
 
--- src/text.rt:68:21
 element-copy-out-count : tie.Need-element-copy-out-count Inv-loop μ-loop
-element-copy-out-count c = ?
+element-copy-out-count c = search needs
 
--- src/text.rt:69:32
 name-at-requires : tie.Need-name-at-requires Inv-loop μ-loop
-name-at-requires c κs = ?
+name-at-requires c κs = search needs
 
--- src/text.rt:69:9
 put-name-requires : tie.Need-put-name-requires Inv-loop μ-loop
-put-name-requires c κs = ?
+put-name-requires c κs =
+    let left = c .before .before .before .before .before .before .before .loop .inv .0 in
+    let below = c .before .before .before .before .before .before .loop-test .taken in
+    let short = name-short (c .before .before .before .before .before .before .before .before .before .before .before .before .args .t3) (c .before .before .before .before .before .before .before .loop .i) (c .before .before .before .before .before .before .before .before .sized .ensures) in
+    let name = ap length (c .name-at .ensures) in
+    let room = left .room in
+    omega arith
 
--- src/text.rt:70:13
 add-i : tie.Need-add-i Inv-loop μ-loop
-add-i c = ?
+add-i c = search needs
 
--- src/text.rt:67:5
 loop-less : tie.Need-loop-less Inv-loop μ-loop
-loop-less c = ?
+loop-less c = search needs
 
--- src/text.rt:67:5
 loop-again : tie.Need-loop-again Inv-loop μ-loop
-loop-again c = ?
+loop-again c =
+    (turn (c .before .before .before .before .before .before .before .before .before .before .before .before .before .before .before .args .t3) (c .before .before .before .before .before .before .before .before .before .before .before .before .before .before .before .args .out .now) (c .before .before .before .before .before .before .before .before .before .before .before .before .before .before .before .args .at) (c .before .before .before .before .before .before .before .before .before .before .loop .out) (c .before .before .before .before .before .before .before .before .before .before .loop .to) (c .before .before .before .before .before .before .before .before .before .before .loop .i) (c .before .before .before .before .before .before .before .before .before .before .loop .inv .0) _ _ _ (c .before .before .before .before .before .before .before .before .before .loop-test .taken)
+    (c .before .before .before .name-at .ensures)
+    (let short = name-short (c .before .before .before .before .before .before .before .before .before .before .before .before .before .before .before .args .t3) (c .before .before .before .before .before .before .before .before .before .before .loop .i) (c .before .before .before .before .before .before .before .before .before .before .before .sized .ensures) in let name = ap length (c .before .before .before .name-at .ensures) in omega arith)
+    (c .before .before .put-name .ensures) (search needs),
+    c .before .before .before .before .before .before .before .before .before .before .loop .inv .1)
 
--- src/text.rt:60:1
 same-length : tie.Need-same-length Inv-loop μ-loop
-same-length c = ?
+same-length c = c .before .loop .inv .0 .kept
 
--- src/text.rt:60:1
 returns : tie.Need-returns Inv-loop μ-loop
-returns c = ?
+returns c = over (c .before .before .before .before .before .before .args .t3) (c .before .before .before .before .before .before .args .out .now) (c .before .before .before .before .before .before .args .at) (c .before .loop .out) (c .before .loop .to) (c .before .loop .i) (c .before .loop .inv .0) (c .loop-test .left)
 
 pub put-names-spec : {M : Type 1} → statement M
 put-names-spec =
@@ -61,6 +68,7 @@ put-names-spec =
     (tie.spec
     Inv-loop
     μ-loop
+    sized-requires
     cast-held
     loop-holds
     mul-count

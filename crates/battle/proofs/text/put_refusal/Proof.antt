@@ -1,60 +1,46 @@
+-- `battle::text::put_refusal` meets its contract.
+-- Assumes nothing.
 use borrow.Author.Needs.{needs}
 use Rattle.battle.proofs.text.put_refusal.Statement.{statement}
 use Rattle.battle.proofs.text.put_refusal.Tie as tie
-use Rattle.battle.proofs.text.put_refusal.Reads as reads
-use Rattle.battle.proofs.text.put_refusal.Lts as lts
-use Rattle.answer.proofs.number.Reads as number-reads
-use Rattle.answer.proofs.value.Reads as value-reads
-use Rattle.battle.proofs.text.put_byte.Reads as put-byte-reads
-use Rattle.battle.proofs.text.put_decimal.Reads as put-decimal-reads
+use Rattle.answer.specs.Numbers.{told}
+use Rattle.battle.proofs.Lines.{refusal-short, refusal-long}
 
--- src/text.rt:80:9
 number-requires : tie.Need-number-requires
 number-requires c κs = search needs
 
--- src/text.rt:81:40
 cast-put-decimal : tie.Need-cast-put-decimal
 cast-put-decimal c = search needs
 
--- src/text.rt:81:9
 put-decimal-requires : tie.Need-put-decimal-requires
 put-decimal-requires c κs = search needs
 
--- src/text.rt:83:9
 put-byte-requires : tie.Need-put-byte-requires
 put-byte-requires c κs = search needs
 
--- src/text.rt:83:9
 same-length : tie.Need-same-length
 same-length c = search needs
 
--- src/text.rt:83:9
 returns : tie.Need-returns
-returns c = ?
+returns c = refusal-short (told (c .before .before .before .before .before .before .before .before .before .before .before .args .answer)) (c .before .before .before .before .before .before .before .before .before .number .ensures) (c .before .before .before .before .if1 .taken) (c .before .before .before .before .before .before .before .put-decimal .ensures .0) (c .before .before .put-byte .ensures)
 
--- src/text.rt:85:9
 put-byte-requires-2 : tie.Need-put-byte-requires-2
 put-byte-requires-2 c κs = search needs
 
--- src/text.rt:86:43
 value-requires : tie.Need-value-requires
 value-requires c κs = search needs
 
--- src/text.rt:86:9
 put-decimal-requires-2 : tie.Need-put-decimal-requires-2
 put-decimal-requires-2 c κs = search needs
 
--- src/text.rt:87:5
 put-byte-requires-3 : tie.Need-put-byte-requires-3
 put-byte-requires-3 c κs = search needs
 
--- src/text.rt:76:1
 same-length-2 : tie.Need-same-length-2
 same-length-2 c = search needs
 
--- src/text.rt:76:1
 returns-2 : tie.Need-returns-2
-returns-2 c = ?
+returns-2 c = refusal-long (told (c .before .before .before .before .before .before .before .before .before .before .before .before .before .before .before .before .before .before .before .before .args .answer)) (c .before .before .before .before .before .before .before .before .before .before .before .before .before .before .before .before .before .before .number .ensures) (c .before .before .before .before .before .before .before .before .before .before .before .before .before .if1 .left) (c .before .before .before .before .before .before .before .value .ensures) (c .before .before .before .before .before .before .before .before .before .before .before .before .before .before .before .before .put-decimal .ensures .0) (c .before .before .before .before .before .before .before .before .before .before .before .put-byte2 .ensures) (c .before .before .before .before .before .before .put-decimal2 .ensures .0) (c .before .before .put-byte3 .ensures)
 
 pub put-refusal-spec : {M : Type 1} → statement M
 put-refusal-spec =

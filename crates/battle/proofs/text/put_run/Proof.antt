@@ -1,0 +1,63 @@
+-- `battle::text::put_run` meets its contract.
+-- Assumes nothing.
+use borrow.Author.Needs.{needs}
+use Rattle.battle.proofs.text.put_run.Statement.{statement}
+use Rattle.battle.proofs.text.put_run.Tie as tie
+use Rattle.battle.proofs.Puts.{then}
+use Rattle.battle.proofs.Lines.{run-text}
+
+number-requires : tie.Need-number-requires
+number-requires c κs = search needs
+
+cast-put-decimal : tie.Need-cast-put-decimal
+cast-put-decimal c = search needs
+
+put-decimal-requires : tie.Need-put-decimal-requires
+put-decimal-requires c κs = search needs
+
+put-byte-requires : tie.Need-put-byte-requires
+put-byte-requires c κs = search needs
+
+put-decimal-requires-2 : tie.Need-put-decimal-requires-2
+put-decimal-requires-2 c κs = search needs
+
+put-byte-requires-2 : tie.Need-put-byte-requires-2
+put-byte-requires-2 c κs = search needs
+
+put-decimal-requires-3 : tie.Need-put-decimal-requires-3
+put-decimal-requires-3 c κs = search needs
+
+put-byte-requires-3 : tie.Need-put-byte-requires-3
+put-byte-requires-3 c κs = search needs
+
+put-names-requires : tie.Need-put-names-requires
+put-names-requires c κs = search needs
+
+same-length : tie.Need-same-length
+same-length c = search needs
+
+returns : tie.Need-returns
+returns c =
+    run-text (c .before .before .before .before .before .before .before .before .before .before .before .before .before .before .before .before .before .before .before .before .before .before .before .before .before .before .before .before .before .before .args .steps) (c .before .before .before .before .before .before .before .before .before .before .before .before .before .before .before .before .before .before .before .before .before .before .before .before .before .before .before .before .before .before .args .writes) (c .before .before .before .before .before .before .before .before .before .before .before .before .before .before .before .before .before .before .before .before .before .before .before .before .before .before .before .before .before .before .args .h) (c .before .before .before .before .before .before .before .before .before .before .before .before .before .before .before .before .before .before .before .before .before .before .before .before .before .before .before .number .ensures)
+    (then (c .before .before .before .before .before .before .before .before .before .before .before .before .before .before .before .before .before .before .before .before .before .before .before .before .before .before .put-decimal .ensures .0)
+    (then (c .before .before .before .before .before .before .before .before .before .before .before .before .before .before .before .before .before .before .before .before .before .before .put-byte .ensures)
+    (then (c .before .before .before .before .before .before .before .before .before .before .before .before .before .before .before .before .before .before .put-decimal2 .ensures .0)
+    (then (c .before .before .before .before .before .before .before .before .before .before .before .before .before .before .put-byte2 .ensures)
+    (then (c .before .before .before .before .before .before .before .before .before .before .put-decimal3 .ensures .0)
+    (then (c .before .before .before .before .before .before .put-byte3 .ensures) (c .before .before .put-names .ensures)))))))
+
+pub put-run-spec : {M : Type 1} → statement M
+put-run-spec =
+    tie.close
+    (tie.spec
+    number-requires
+    cast-put-decimal
+    put-decimal-requires
+    put-byte-requires
+    put-decimal-requires-2
+    put-byte-requires-2
+    put-decimal-requires-3
+    put-byte-requires-3
+    put-names-requires
+    same-length
+    returns)
