@@ -78,6 +78,7 @@ module _ (h : Header) (l : List ℕ) (p : ℕ) where
         record {
           out = sym (left .bytes ∙ ap (λ (k : ℕ). sets out to (nameLines h i k)) none);
           to = sym (left .ends ∙ ap (λ (k : ℕ). to + length (nameLines h i k)) none ∙ add-zero to);
+          inside = let r = left .room in let k = left .kept in omega arith;
         }
 
     pub turn : (name : List ℕ) (out′ : List ℕ) (to′ : ℕ) → i < h .held → name ≡ nameAt h i → length name ≤ 512

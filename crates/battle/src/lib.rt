@@ -1,3 +1,76 @@
 // Plays a match file (01, 'Match file', `play`), all but reading it and printing.
+ghost use mathlib.Core.Path.{_≡_};
+ghost use mathlib.Core.List.{_++_};
+ghost use Prim.Native.Nat.{_-_};
+ghost use lib.ListN.{length, replicate};
+ghost use Rattle.battle.specs.Text.{printed};
+use machine::Header;
+use playing::play_file;
+use text::put_refusal;
+use text::put_run;
 
+mod playing;
 mod text;
+
+// What is to be printed: that many of the bytes; the others are 0.
+pub struct Printed {
+    pub bytes: [u8; 16384],
+    pub length: usize,
+}
+
+// Memory for 8,000 cells.
+fn core_memory() -> [u64; 8000]
+    ensures { λ r. ⌜ length r ≡ 8000 ⌝ }
+{
+    [0; 8000]
+}
+
+// Memory for 2,000 queue entries.
+fn queue_memory() -> [u64; 2000]
+    ensures { λ r. ⌜ length r ≡ 2000 ⌝ }
+{
+    [0; 2000]
+}
+
+// Memory for what is printed.
+fn text_memory() -> [u8; 16384]
+    ensures { λ r. ⌜ r ≡ replicate 16384 0 ⌝ }
+{
+    [0; 16384]
+}
+
+// The header of no machine.
+fn blank() -> Header {
+    Header {
+        size: 0,
+        head: 0,
+        length: 0,
+        steps: 0,
+        held: 0,
+        names: [0; 512],
+        lengths: [0; 16],
+        counts: [0; 16],
+        threads: [0; 16],
+    }
+}
+
+// Plays a match file: gives every byte that is to be printed.
+pub fn play(file: &[u8]) -> Printed
+    ensures { λ r. ⌜ (r .bytes ≡ printed (now (file .entry)) ++ replicate (16384 - length (printed (now (file .entry)))) 0) × (r .length ≡ length (printed (now (file .entry)))) ⌝ }
+{
+    let mut core = core_memory();
+    let mut queue = queue_memory();
+    let mut bytes = text_memory();
+    let p = play_file(file, &mut core, &mut queue, blank());
+    let answer = p.answer;
+    if p.ran {
+        let h = p.header;
+        let all = put_run(&mut bytes, answer, p.steps, p.writes, h);
+        return Printed { bytes, length: all };
+    }
+    let line = put_refusal(&mut bytes, answer);
+    Printed {
+        bytes,
+        length: line,
+    }
+}

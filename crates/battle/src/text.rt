@@ -81,7 +81,7 @@ fn put_names(out: &mut [u8], at: usize, h: Header) -> usize
 }
 
 // Puts the line of a refusal: the number, and for 13 its position.
-fn put_refusal(out: &mut [u8], answer: Answer) -> usize
+pub fn put_refusal(out: &mut [u8], answer: Answer) -> usize
     requires { ⌜ 64 ≤ length (now out) ⌝ }
     ensures { λ r. ⌜ Puts (now (out .entry)) (now (out .exit)) 0 r (spec.text (refused (told answer))) ⌝ }
 {
@@ -96,7 +96,7 @@ fn put_refusal(out: &mut [u8], answer: Answer) -> usize
 }
 
 // Puts the lines of a run: answer, steps and writes, then the names.
-fn put_run(out: &mut [u8], answer: Answer, steps: u64, writes: u64, h: Header) -> usize
+pub fn put_run(out: &mut [u8], answer: Answer, steps: u64, writes: u64, h: Header) -> usize
     requires { ⌜ (16384 ≤ length (now out)) × (h .held ≤ 16) ⌝ }
     ensures { λ r. ⌜ Puts (now (out .entry)) (now (out .exit)) 0 r (spec.text (played (told answer .number) steps writes h)) ⌝ }
 {

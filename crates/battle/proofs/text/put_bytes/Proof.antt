@@ -45,7 +45,7 @@ same-length : tie.Need-same-length Inv-loop μ-loop
 same-length c = c .before .loop .inv .1
 
 returns : tie.Need-returns Inv-loop μ-loop
-returns c = record { out = sym (c .before .loop .inv .2 ∙ rw (drop-of-length-le (c .before .before .args .bytes .now) (c .loop-test .left))); to = omega (arith, c .before .loop .inv .0, c .loop-test .left) }
+returns c = record { out = sym (c .before .loop .inv .2 ∙ rw (drop-of-length-le (c .before .before .args .bytes .now) (c .loop-test .left))); to = omega (arith, c .before .loop .inv .0, c .loop-test .left); inside = omega (arith, c .before .loop .inv .0, c .before .before .pre) }
 
 pub put-bytes-spec : {M : Type 1} → statement M
 put-bytes-spec =

@@ -1,0 +1,135 @@
+// Loads every warrior of a match file and runs it (01, 'Match file', `play`).
+ghost use mathlib.Core.Path.{_≡_};
+ghost use mathlib.Core.Bool.{true, false};
+ghost use Prim.Native.Nat.{_≤_};
+ghost use lib.ListN.{length};
+ghost use Rattle.match_file.specs.declared.fault.Fault.the-variants.{Nowhere};
+ghost use Rattle.match_file.specs.Faults.{fault};
+ghost use Rattle.match_file.specs.Reading.{warriorsIn};
+ghost use Rattle.machine.specs.Load as begins;
+ghost use Rattle.process.specs.Parts.{machineOf};
+ghost use Rattle.battle.specs.Match as spec;
+ghost use Rattle.battle.specs.Given.{loadsOf, resultOf};
+use answer::Answer;
+use answer::number;
+use cycle::run;
+use machine::Ceiling;
+use machine::Header;
+use match_file::body;
+use match_file::name;
+use match_file::read;
+use match_file::read_line;
+use sim::fresh;
+use sim::warrior::load;
+
+// The answer to a list of loads, and the header that they leave.
+struct Loaded {
+    answer: Answer,
+    header: Header,
+}
+
+// What comes of a file: whether it was run, the answer, the steps and writes of the run, and the header.
+pub struct Played {
+    pub ran: bool,
+    pub answer: Answer,
+    pub steps: u64,
+    pub writes: u64,
+    pub header: Header,
+}
+
+// Loads the warriors of a file that reads, up to the first refused.
+fn load_all(file: &[u8], count: usize, core: &mut [u64], queue: &mut [u64], h: Header) -> Loaded
+    requires { ⌜ (fault (now file) ≡ Nowhere) × (count ≡ warriorsIn (now file)) ⌝ }
+    ensures { λ r. ⌜ loadsOf (r .answer) (machineOf (now (core .exit)) (now (queue .exit)) (r .header))
+        ≡ spec.loads (now (file .entry)) 0 count (machineOf (now (core .entry)) (now (queue .entry)) h) ⌝ }
+{
+    let mut header = h;
+    let mut i: usize = 0;
+    while i < count {
+        let l = read_line(file, i);
+        let o = load(
+            core,
+            queue,
+            header,
+            name(file, i),
+            body(file, i),
+            l.origin,
+            l.place,
+        );
+        header = o.header;
+        let answer = o.answer;
+        if number(answer) != 0 {
+            return Loaded { answer, header };
+        }
+        i = i + 1;
+    }
+    Loaded {
+        answer: Answer::Done,
+        header,
+    }
+}
+
+// Refused before the run.
+fn refuse(answer: Answer, header: Header) -> Played
+    ensures { λ r. ⌜ (r .ran ≡ false) × (r .answer ≡ answer) × (r .steps ≡ 0) × (r .writes ≡ 0) × (r .header ≡ header) ⌝ }
+{
+    Played {
+        ran: false,
+        answer,
+        steps: 0,
+        writes: 0,
+        header,
+    }
+}
+
+// The warriors of a file that reads are loaded into a core of its size, and run with no ceiling given.
+fn play_loaded(file: &[u8], size: u32, count: usize, core: &mut [u64], queue: &mut [u64]) -> Played
+    requires { ⌜ (fault (now file) ≡ Nowhere) × (count ≡ warriorsIn (now file)) × (length (now core) ≡ size) × (length (now queue) ≡ 2000) ⌝ }
+    ensures { λ r. ⌜ (resultOf (r .ran) (r .answer) (r .steps) (r .writes) (r .header)
+        ≡ spec.afterFresh (now (file .entry)) (begins.fresh size (now (core .entry)) (now (queue .entry))))
+        × (r .ran ≡ true → r .header .held ≤ 16) ⌝ }
+{
+    let f = fresh(size, core, queue);
+    let blank = f.header;
+    let first = f.answer;
+    if number(first) != 0 {
+        return refuse(first, blank);
+    }
+    let l = load_all(file, count, core, queue, blank);
+    let h = l.header;
+    let second = l.answer;
+    if number(second) != 0 {
+        return refuse(second, h);
+    }
+    let o = run(core, queue, h, Ceiling::Unsaid);
+    let answer = o.answer;
+    let header = o.header;
+    Played {
+        ran: true,
+        answer,
+        steps: o.steps,
+        writes: o.writes,
+        header,
+    }
+}
+
+// Plays a file, with memory for 8,000 cells and 2,000 queue entries.
+pub fn play_file(file: &[u8], core: &mut [u64], queue: &mut [u64], blank: Header) -> Played
+    requires { ⌜ (length (now core) ≡ 8000) × (length (now queue) ≡ 2000) ⌝ }
+    ensures { λ r. ⌜ (resultOf (r .ran) (r .answer) (r .steps) (r .writes) (r .header) ≡ spec.result (now (file .entry))) × (r .ran ≡ true → r .header .held ≤ 16) ⌝ }
+{
+    if file.len() > 32768 {
+        return refuse(Answer::Malformed(32768), blank);
+    }
+    let c = read(file);
+    let answer = c.answer;
+    if number(answer) != 0 {
+        return refuse(answer, blank);
+    }
+    if c.size > 8000 {
+        return refuse(Answer::InvalidCoreSize, blank);
+    }
+    let cells = c.size as usize;
+    let lent = &mut core[..cells];
+    play_loaded(file, c.size, c.warriors, lent, queue)
+}
