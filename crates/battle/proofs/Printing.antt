@@ -1,6 +1,6 @@
 -- What was put into memory of zeros is what is printed for the file.
 -- Assumes nothing.
-use Prim.Native.Nat.{ℕ, _-_}
+use Prim.Native.Nat.{ℕ, _-_, _≤_}
 use mathlib.Core.Path.{_≡_, sym, ap, subst, _∙_}
 use mathlib.Core.Bool.{Bool, true, false}
 use mathlib.Core.List.{List, _++_}
@@ -16,7 +16,7 @@ use Rattle.battle.proofs.Puts.{filled}
 module _ (f : List ℕ) (answer : Answer) (steps writes : ℕ) (h : Header) (ran : Bool) (is : resultOf ran answer steps writes h ≡ result f) where
   -- the memory and the length afterwards
   abbrev Prints : List ℕ → ℕ → ℕ → Type 0
-  Prints m q k = (m ≡ printed f ++ replicate (k - length (printed f)) 0) × (q ≡ length (printed f))
+  Prints m q k = (m ≡ printed f ++ replicate (k - length (printed f)) 0) × (q ≡ length (printed f)) × (q ≤ length m)
 
   prints : {l m : List ℕ} {q : ℕ} (k : ℕ) (b : Bool) → ran ≡ b → l ≡ replicate k 0 → Puts l m 0 q (text (resultOf b answer steps writes h)) → Prints m q k
   unfolding printed

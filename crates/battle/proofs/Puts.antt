@@ -40,7 +40,8 @@ pub roomy : {l : List ℕ} (k : ℕ) → l ≡ replicate k 0 → k ≤ length l
 roomy k e = let n = ap length e ∙ length-replicate k 0 in omega arith
 
 -- memory of zeros into which bytes were put from the start
-pub filled : {l m xs : List ℕ} {q : ℕ} (k : ℕ) → l ≡ replicate k 0 → Puts l m 0 q xs → (m ≡ xs ++ replicate (k - length xs) 0) × (q ≡ length xs)
-filled {l = l} {xs = xs} k e a =
+pub filled : {l m xs : List ℕ} {q : ℕ} (k : ℕ) → l ≡ replicate k 0 → Puts l m 0 q xs
+    → (m ≡ xs ++ replicate (k - length xs) 0) × (q ≡ length xs) × (q ≤ length m)
+filled {l = l} {xs = xs} {q = q} k e a =
     let end : length xs ≤ length l = let t = a .to in let i = a .inside in omega arith in
-    (a .out ∙ stored l xs end ∙ ap (λ (zs : List ℕ). xs ++ drop (length xs) zs) e ∙ ap (λ (zs : List ℕ). xs ++ zs) (drop-zeros (length xs) k), a .to ∙ zero-add (length xs))
+    (a .out ∙ stored l xs end ∙ ap (λ (zs : List ℕ). xs ++ drop (length xs) zs) e ∙ ap (λ (zs : List ℕ). xs ++ zs) (drop-zeros (length xs) k), a .to ∙ zero-add (length xs), subst (λ (n : ℕ). q ≤ n) (sym (ap length (a .out) ∙ length-sets l 0 xs)) (a .inside))

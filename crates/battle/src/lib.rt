@@ -1,7 +1,7 @@
-// Plays a match file (01, 'Match file', `play`), all but reading it and printing.
+// Plays a match file (01, 'Match file', `play`), and prints what came of it.
 ghost use mathlib.Core.Path.{_≡_};
 ghost use mathlib.Core.List.{_++_};
-ghost use Prim.Native.Nat.{_-_};
+ghost use Prim.Native.Nat.{_-_, _≤_};
 ghost use lib.ListN.{length, replicate};
 ghost use Rattle.battle.specs.Text.{printed};
 use machine::Header;
@@ -56,7 +56,7 @@ fn blank() -> Header {
 
 // Plays a match file: gives every byte that is to be printed.
 pub fn play(file: &[u8]) -> Printed
-    ensures { λ r. ⌜ (r .bytes ≡ printed (now (file .entry)) ++ replicate (16384 - length (printed (now (file .entry)))) 0) × (r .length ≡ length (printed (now (file .entry)))) ⌝ }
+    ensures { λ r. ⌜ (r .bytes ≡ printed (now (file .entry)) ++ replicate (16384 - length (printed (now (file .entry)))) 0) × (r .length ≡ length (printed (now (file .entry)))) × (r .length ≤ length (r .bytes)) ⌝ }
 {
     let mut core = core_memory();
     let mut queue = queue_memory();
@@ -73,4 +73,12 @@ pub fn play(file: &[u8]) -> Printed
         bytes,
         length: line,
     }
+}
+
+// Plays a match file, and writes to standard output what is to be printed.
+pub fn print(file: &[u8]) {
+    let p = play(file);
+    let bytes = p.bytes;
+    let length = p.length;
+    io::write_all(1, &bytes[..length]);
 }
