@@ -1,8 +1,8 @@
--- `make_match::take_words` meets its contract.
+-- `make_match::reading::take_words` meets its contract.
 -- Assumes nothing.
 use borrow.Author.Needs.{needs}
-use Rattle.make_match.proofs.take_words.Statement.{statement}
-use Rattle.make_match.proofs.take_words.Tie as tie
+use Rattle.make_match.proofs.reading.take_words.Statement.{statement}
+use Rattle.make_match.proofs.reading.take_words.Tie as tie
 use mathlib.Core.Path.{_≡_}
 use Prim.Native.Nat.{_≤_, _-_}
 use lib.ListN.{length}
