@@ -15,9 +15,13 @@ build() {
         say "$program is not built, and rt, which builds it, is not on PATH"
         exit 1
     fi
-    if ! log=$(cd -- "$root" && rt check "$program" 2>&1 </dev/null) || [ ! -x "$built" ]; then
+    if ! log=$(cd -- "$root" && rt check "$program" 2>&1 </dev/null); then
         printf '%s\n' "$log" >&2
         say "rt check $program failed, so there is no program to run"
+        exit 1
+    fi
+    if [ ! -x "$built" ]; then
+        say "rt check $program made no program anew: remove $root/target and try again"
         exit 1
     fi
 }

@@ -74,8 +74,10 @@ make=$root/bin/make-match
 none=/dev/null
 
 # Both programs are built before anything is timed.
-"$play" "$root/examples/imp.match" >"$work/out" || exit 1
-"$make" "$root/examples/imp.txt" >"$work/out" || exit 1
+if ! "$play" "$root/examples/imp.match" >"$work/out" || ! "$make" "$root/examples/imp.txt" >"$work/out"; then
+    printf 'failed: examples/imp\n0 passed, 1 failed\n'
+    exit 1
+fi
 
 cd "$work" || exit 1
 : >empty
