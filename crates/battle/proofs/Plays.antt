@@ -23,6 +23,7 @@ use Rattle.match_file.specs.declared.fault.Fault.the-variants.{Nowhere, At}
 use Rattle.match_file.specs.Faults.{fault, faultAt}
 use Rattle.match_file.specs.Reading as reading
 use Rattle.match_file.specs.Reading.{zeroed, emptied, warriorsIn, sizeIn, warriorOf}
+use Rattle.match_file.proofs.Values.{number-read, part-read, warrior-reads}
 use Rattle.sim.specs.Given as sim
 use Rattle.cycle.specs.Given as cycle
 use Rattle.battle.specs.Match.{Loads, loadOf, loads, Result, refused, played, ran, afterLoads, afterFresh, afterReading, result}
@@ -41,18 +42,12 @@ module _ (f : List ℕ) (count i : ℕ) (m : Machine) (reads : (fault f ≡ Nowh
     (body-is : body ≡ emptied (faultAt f i) (warriorOf f i .body)) (origin-is : origin ≡ zeroed (faultAt f i) (warriorOf f i .origin))
     (place-is : place ≡ zeroed (faultAt f i) (warriorOf f i .place)) where
   here : faultAt f i ≡ Nowhere
-  here = rw (reads .0, lt-ltb i (warriorsIn f) (subst (λ (k : ℕ). i < k) (reads .1) below))
-
-  number-read : {r n : ℕ} → r ≡ zeroed (faultAt f i) n → r ≡ n
-  number-read {n = n} d = d ∙ ap (λ (x : Fault). zeroed x n) here
-
-  part-read : {r xs : List ℕ} → r ≡ emptied (faultAt f i) xs → r ≡ xs
-  part-read {xs = xs} d = d ∙ ap (λ (x : Fault). emptied x xs) here
+  here = warrior-reads f i (reads .0) (subst (λ (k : ℕ). i < k) (reads .1) below)
 
   load-is : load m name body origin place ≡ loadOf f i m
   load-is =
-      ap₂ (λ (a b : List ℕ). load m a b origin place) (part-read name-is) (part-read body-is)
-      ∙ ap₂ (load m (warriorOf f i .name) (warriorOf f i .body)) (number-read origin-is) (number-read place-is)
+      ap₂ (λ (a b : List ℕ). load m a b origin place) (part-read here name-is) (part-read here body-is)
+      ∙ ap₂ (load m (warriorOf f i .name) (warriorOf f i .body)) (number-read here origin-is) (number-read here place-is)
 
   module _ (answer : Answer) (writes : ℕ) (n : Machine) {r : ℕ}
       (gave : sim.given answer writes (n .core) (n .queue) (n .header) ≡ sim.givenBy (load m name body origin place))
@@ -205,7 +200,7 @@ module _ (f : List ℕ) where
           go (At p) e = absurd (eqb-false 13 0 refl e)
 
       pub is-read : {n k : ℕ} → n ≡ zeroed (fault f) k → n ≡ k
-      is-read {k = k} d = d ∙ ap (λ (x : Fault). zeroed x k) reads
+      is-read d = number-read reads d
 
       module _ {size : ℕ} (size-is : size ≡ zeroed (fault f) (sizeIn f)) where
         abbrev by-size : Bool → Result

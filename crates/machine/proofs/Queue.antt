@@ -59,15 +59,6 @@ entries-push e m h l =
     one : m .header .length + 1 ≡ suc (m .header .length)
     one = omega arith
 
--- as many entries as the length says
-length-slots : (q : List ℕ) (i n : ℕ) → length (slots q i n) ≡ n
-length-slots q i zero = refl
-length-slots q i (suc n) = ap suc (length-slots q (ahead (length q) i 1) n)
-
-pub length-entries : (m : Machine) → length (entries m) ≡ m .header .length
-unfolding entries
-length-entries m = length-slots (m .queue) (m .header .head) (m .header .length)
-
 module _ (m : Machine) (some : 0 < m .header .length) where
   pub tally-pop : (p : ℕ → Bool) → tally p (entries m) ≡ oneIf (p (front m)) + tally p (entries (pop m))
   tally-pop p = ap (tally p) (entries-pop m some)

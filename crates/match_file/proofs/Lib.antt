@@ -6,3 +6,4 @@ pub mod Whole
 pub mod Damaged
 pub mod Format
 pub mod Warriors
+pub mod Values

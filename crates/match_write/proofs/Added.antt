@@ -5,7 +5,6 @@ use mathlib.Core.List.{List, [], _∷_, _++_}
 use Prim.Native.Nat.{ℕ, _+_, _*_, _<_}
 use native.Mathlib.Omega.{arith}
 use lib.ListN.{length}
-use borrow.Author.Tests.{lt-ltb}
 use Rattle.answer.specs.declared.Answer.{Answer}
 use Rattle.answer.specs.Numbers.{Told, told}
 use Rattle.machine.specs.State.{first}
@@ -15,6 +14,7 @@ use Rattle.match_file.specs.Format.{Warrior, file}
 use Rattle.match_file.specs.Faults.{linesFault, fault}
 use Rattle.match_file.specs.Reading.{toldBy, zeroed, warriorsIn, sizeIn, warriorsAt, warriorsOf}
 use Rattle.match_file.proofs.Whole.{head-ok}
+use Rattle.match_file.proofs.Values.{warrior-reads}
 use Rattle.match_write.specs.Writing.{Given, given, settle, malformed, checks, write, writeAdded, Earlier}
 
 -- none before the first warrior
@@ -32,14 +32,11 @@ module _ (f : List ℕ) where
   reads {n} d h = reads-or (fault f) refl n d h
 
   module _ (e : fault f ≡ Nowhere) where
-    pub read-is : {n k : ℕ} → n ≡ zeroed (fault f) k → n ≡ k
-    read-is {k = k} d = d ∙ ap (λ (x : Fault). zeroed x k) e
-
     pub few : warriorsIn f < 17
     few = let h = head-ok f e in omega (arith, h .high)
 
     earlier-of : Earlier f (warriorsIn f) (4 + 43 * warriorsIn f)
-    earlier-of = record { lines = head-ok f e .lines; numbers = λ i h. rw (e, lt-ltb i (warriorsIn f) h) }
+    earlier-of = record { lines = head-ok f e .lines; numbers = λ i h. warrior-reads f i e h }
 
     pub earlier : {n : ℕ} → n ≡ warriorsIn f → Earlier f n (4 + 43 * n)
     earlier d = rw d earlier-of

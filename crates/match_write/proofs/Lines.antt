@@ -11,7 +11,6 @@ use lib.Seq.{sets}
 use Rattle.laws.proofs.Lists.{fall, to-end}
 use Rattle.program.specs.Bytes.{spelled}
 use Rattle.program.specs.Program.{instructions}
-use Rattle.match_file.specs.declared.fault.Fault.{Fault}
 use Rattle.match_file.specs.declared.fault.Fault.the-variants.{Nowhere}
 use Rattle.match_file.specs.Format.{Warrior, line, lines, bodies, file}
 use Rattle.match_file.specs.Faults.{faultAt}
@@ -21,6 +20,7 @@ use Rattle.match_file.proofs.Whole.{LineAt, warrior-ok}
 use Rattle.match_file.proofs.Format.{Short, lineOf, length-line, length-lines, file-more}
 use Rattle.match_file.proofs.Warriors.{length-body, count-is}
 use Rattle.laws.proofs.Stores.{store-then}
+use Rattle.match_file.proofs.Values.{number-read, part-read}
 use Rattle.match_write.proofs.Stores.{spelled-zero}
 
 -- a line, stored by a store and six calls
@@ -51,12 +51,6 @@ line-stored l l1 l2 l3 l4 l5 l6 name p start count origin place h e1 e2 e3 e4 e5
 
 -- what reading gives of a warrior number that reads, and one turn of the loop over the lines
 module _ (f : List ℕ) (i : ℕ) (e : faultAt f i ≡ Nowhere) where
-  read-number : {r n : ℕ} → r ≡ zeroed (faultAt f i) n → r ≡ n
-  read-number {n = n} d = d ∙ ap (λ (x : Fault). zeroed x n) e
-
-  read-part : {r xs : List ℕ} → r ≡ emptied (faultAt f i) xs → r ≡ xs
-  read-part {xs = xs} d = d ∙ ap (λ (x : Fault). emptied x xs) e
-
   its : LineAt f (4 + 43 * i)
   its = warrior-ok f i e .its
 
@@ -64,10 +58,10 @@ module _ (f : List ℕ) (i : ℕ) (e : faultAt f i ≡ Nowhere) where
   short-name = rw (length-part f (4 + 43 * i + 1) (getD f (4 + 43 * i) 0) (omega (arith, its .line .fits, its .line .short))) (its .line .short)
 
   pub its-short : {name : List ℕ} → name ≡ emptied (faultAt f i) (warriorOf f i .name) → length name ≤ 32
-  its-short d = rw (read-part d) short-name
+  its-short d = rw (part-read e d) short-name
 
   pub its-count : {c : ℕ} → c ≡ zeroed (faultAt f i) (countOf f i) → 12 * c ≡ length (warriorOf f i .body)
-  its-count d = rw (read-number d) (sym (length-body f (4 + 43 * i) its))
+  its-count d = rw (number-read e d) (sym (length-body f (4 + 43 * i) its))
 
   pub lines-turn : (out out′ name : List ℕ) (to n c origin place : ℕ) → i < n
       → name ≡ emptied (faultAt f i) (warriorOf f i .name) → c ≡ zeroed (faultAt f i) (countOf f i)
@@ -79,8 +73,8 @@ module _ (f : List ℕ) (i : ℕ) (e : faultAt f i ≡ Nowhere) where
       let w : Warrior = warriorAt f q in
       let z : q + 43 ≡ 4 + 43 * (i + 1) = omega arith in
       let k : line name to c origin place ≡ lineOf w to
-      = ap₂ (λ (x : List ℕ) (y : ℕ). line x to y origin place) (read-part en) (read-number ec ∙ sym (count-is f q its))
-      ∙ ap₂ (λ (x y : ℕ). line (w .name) to (instructions (w .body)) x y) (read-number eo) (read-number ep)
+      = ap₂ (λ (x : List ℕ) (y : ℕ). line x to y origin place) (part-read e en) (number-read e ec ∙ sym (count-is f q its))
+      ∙ ap₂ (λ (x y : ℕ). line (w .name) to (instructions (w .body)) x y) (number-read e eo) (number-read e ep)
       in
       ap (λ (x : ℕ). sets out q (lines to (warriorsAt f q x))) (fall n i h)
       ∙ store-then out out′ (lineOf w to) (lines (to + length (w .body)) (warriorsAt f (q + 43) (n - (i + 1)))) q (q + 43) (s ∙ ap (sets out q) k)

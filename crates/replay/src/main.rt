@@ -83,7 +83,14 @@ fn call(input: &[u8], at: usize, core: &mut [u64], queue: &mut [u64], h: Header)
 }
 
 // The calls of a battle; gives where the next battle begins.
-fn calls(input: &[u8], at: usize, count: u16, core: &mut [u64], queue: &mut [u64], h: Header) -> usize {
+fn calls(
+    input: &[u8],
+    at: usize,
+    count: u16,
+    core: &mut [u64],
+    queue: &mut [u64],
+    h: Header,
+) -> usize {
     let mut here = at;
     let mut left = count;
     let mut header = h;

@@ -81,7 +81,10 @@ pub fn tell(core: &[u64], queue: &[u64], h: Header, answer: Answer) {
     write(value(answer) as u64, b' ');
     write(h.steps as u64, b' ');
     write(h.length as u64, b' ');
-    write(entries(queue, h.head as usize, h.length as usize) as u64, b' ');
+    write(
+        entries(queue, h.head as usize, h.length as usize) as u64,
+        b' ',
+    );
     io::print_decimal(1, digest(0, core) as u64);
     names(h.held as usize, &h.counts, &h.threads);
     io::write_all(1, b"\n");

@@ -65,10 +65,6 @@ module _ (m : Machine) (name body : List ℕ) (place i : ℕ) (a : Accepted m na
   abbrev parts : Header
   parts = headerOf 0 0 0 (m .header .held) (m .header .names) (m .header .lengths) (m .header .counts) (m .header .threads)
 
-  held-le : m .header .held ≤ 16
-  unfolding soundHeader
-  held-le = leb-true (m .header .held) 16 (holds (headerTests m) (a .sound) .1 .1 .1 .1 .1 .0)
-
   pub size-some : m .header .size ≡ 0 → ⊥
   size-some e = let p : place < m .header .size = a .below in omega arith
 

@@ -4,7 +4,8 @@ use borrow.Author.Needs.{needs}
 use native.Mathlib.Omega.{arith}
 use Rattle.match_file.specs.Format.{warrior}
 use Rattle.match_write.proofs.Checks.{refusing}
-use Rattle.match_write.proofs.Added.{refused, reads, read-is, few, earlier, added}
+use Rattle.match_file.proofs.Values.{number-read}
+use Rattle.match_write.proofs.Added.{refused, reads, few, earlier, added}
 use Rattle.match_write.proofs.write_added.Statement.{statement}
 use Rattle.match_write.proofs.write_added.Tie as tie
 
@@ -24,19 +25,19 @@ mul-write : tie.Need-mul-write
 mul-write c =
     let a = c .before .before .before .before .before .before .args in
     let e = reads (a .file .now) (c .before .read .ensures .1) (c .if1 .left) in
-    omega (arith, few (a .file .now) e, read-is (a .file .now) e (c .before .read .ensures .1))
+    omega (arith, few (a .file .now) e, number-read e (c .before .read .ensures .1))
 
 add-write : tie.Need-add-write
 add-write c =
     let a = c .before .before .before .before .before .before .args in
     let e = reads (a .file .now) (c .before .read .ensures .1) (c .if1 .left) in
-    omega (arith, few (a .file .now) e, read-is (a .file .now) e (c .before .read .ensures .1))
+    omega (arith, few (a .file .now) e, number-read e (c .before .read .ensures .1))
 
 write-requires : tie.Need-write-requires
 write-requires c κs =
     let a = c .before .before .before .before .before .before .before .args in
     let e = reads (a .file .now) (c .before .before .read .ensures .1) (c .before .if1 .left) in
-    earlier (a .file .now) e (read-is (a .file .now) e (c .before .before .read .ensures .1))
+    earlier (a .file .now) e (number-read e (c .before .before .read .ensures .1))
 
 same-length : tie.Need-same-length
 same-length c = search needs
@@ -45,7 +46,7 @@ returns-2 : tie.Need-returns-2
 returns-2 c =
     let a = c .before .before .before .before .before .before .before .before .before .before .args in
     let e = reads (a .file .now) (c .before .before .before .before .before .read .ensures .1) (c .before .before .before .before .if1 .left) in
-    added (a .file .now) (warrior (a .name .now) (a .body .now) (a .origin) (a .place)) (a .out .now) e (read-is (a .file .now) e (c .before .before .before .before .before .read .ensures .1)) (read-is (a .file .now) e (c .before .before .before .before .before .read .ensures .2)) (c .before .before .write .ensures)
+    added (a .file .now) (warrior (a .name .now) (a .body .now) (a .origin) (a .place)) (a .out .now) e (number-read e (c .before .before .before .before .before .read .ensures .1)) (number-read e (c .before .before .before .before .before .read .ensures .2)) (c .before .before .write .ensures)
 
 pub write-added-spec : {M : Type 1} → statement M
 write-added-spec =

@@ -49,12 +49,13 @@ loop-less : tie.Need-loop-less Inv-loop μ-loop
 loop-less c = search needs
 
 loop-again : tie.Need-loop-again Inv-loop μ-loop
-loop-again c =
-    (turn (c .before .before .before .before .before .before .before .before .before .before .before .before .before .before .before .args .t3) (c .before .before .before .before .before .before .before .before .before .before .before .before .before .before .before .args .out .now) (c .before .before .before .before .before .before .before .before .before .before .before .before .before .before .before .args .at) (c .before .before .before .before .before .before .before .before .before .before .loop .out) (c .before .before .before .before .before .before .before .before .before .before .loop .to) (c .before .before .before .before .before .before .before .before .before .before .loop .i) (c .before .before .before .before .before .before .before .before .before .before .loop .inv .0) _ _ _ (c .before .before .before .before .before .before .before .before .before .loop-test .taken)
-    (c .before .before .before .name-at .ensures)
-    (let short = name-short (c .before .before .before .before .before .before .before .before .before .before .before .before .before .before .before .args .t3) (c .before .before .before .before .before .before .before .before .before .before .loop .i) (c .before .before .before .before .before .before .before .before .before .before .before .sized .ensures) in let name = ap length (c .before .before .before .name-at .ensures) in omega arith)
-    (c .before .before .put-name .ensures) (search needs),
-    c .before .before .before .before .before .before .before .before .before .before .loop .inv .1)
+loop-again c = (
+  turn (c .before .before .before .before .before .before .before .before .before .before .before .before .before .before .before .args .t3) (c .before .before .before .before .before .before .before .before .before .before .before .before .before .before .before .args .out .now) (c .before .before .before .before .before .before .before .before .before .before .before .before .before .before .before .args .at) (c .before .before .before .before .before .before .before .before .before .before .loop .out) (c .before .before .before .before .before .before .before .before .before .before .loop .to) (c .before .before .before .before .before .before .before .before .before .before .loop .i) (c .before .before .before .before .before .before .before .before .before .before .loop .inv .0) _ _ _ (c .before .before .before .before .before .before .before .before .before .loop-test .taken)
+      (c .before .before .before .name-at .ensures)
+      (let short = name-short (c .before .before .before .before .before .before .before .before .before .before .before .before .before .before .before .args .t3) (c .before .before .before .before .before .before .before .before .before .before .loop .i) (c .before .before .before .before .before .before .before .before .before .before .before .sized .ensures) in let name = ap length (c .before .before .before .name-at .ensures) in omega arith)
+      (c .before .before .put-name .ensures) (search needs),
+  c .before .before .before .before .before .before .before .before .before .before .loop .inv .1,
+)
 
 same-length : tie.Need-same-length Inv-loop μ-loop
 same-length c = c .before .loop .inv .0 .kept
