@@ -18,7 +18,7 @@ pub use contract.Lifetimes.{Lfts, Shares, AllOutlive}
 pub use contract.Monad.{Fun, fact}
 pub use contract.Running.{givenOf, tables}
 unfoldable pub use contract.Running.{tablesOf}
-pub use types.Kit.{Given, ‵, raw, _⊛_, ⋆, some, later, _$_, _∵_, !, qed, by, move, keep, drop, use1, split, join, group, pick, rewrite, fsplit, fsplit3, fjoin, fjoin3, feqI, feqL, suffices, frame, await, done}
+pub use types.Kit.{Given, Item, ‵, raw, _⊛_, ⋆, some, later, _$_, _∵_, !, qed, by, move, keep, drop, use1, split, join, group, pick, rewrite, fsplit, fsplit3, fjoin, fjoin3, feqI, feqL, suffices, frame, await, done}
 pub use types.Run.{look, look-raw, init, store-raw, forget, stop, hop, fld, from, load, addr, of-opd, and-then, no-more, assigns, land, returns, enter, alloc1, alloc0, params1, pass1, pass0, free1, free0}
 pub use types.Part.{agg, whole, sub, look-in}
 pub use types.SemTy.{Body}
@@ -41,13 +41,14 @@ pub use denote.Triple.Clauses.{lasts, atExit, Lasts}
 pub use denote.Triple.Table.{entered, cited}
 pub use denote.Triple.Walked.{says, Stays, stay-ref, stay-dropped, gave-slice, walkOf, goes-ref, goes-dropped, goes-gave-slice, Walks, ends-at, walked, walk-meets}
 pub use denote.Exit.{yes}
-use Prim.Native.Nat.{_<_, _^_}
 use lib.Dec.{T as Holds}
 use mir.Val.{WT, hasTy}
 use base.Stored.{Gv}
 use base.Fml.{fobor, fauth}
-use types.Kit.{Goal, Soaks, Item, Seq, Step, step}
+use types.Kit.{Goal, Soaks, Seq, Step, step}
 use denote.Memory.{cellAt}
+use denote.Struct.Declared.{Declared, fields, shape, row}
+use denote.Struct.Struct.{layout, Plains}
 use denote.Struct.Laws as LL
 use Rattle.machine.specs.declared.Header.{Header}
 use Rattle.machine.proofs.Header as T
@@ -57,15 +58,18 @@ use Rattle.machine.proofs.Header.Laws as T′
 abbrev pub hval : Header → Val
 hval = LL.val T.the-type T′.the-laws
 
-module _ {M : Type 1} (𝓤 : URA M) (H : Heap 𝓤) (A : Atoms 𝓤) (W : Given 𝓤 H A) where
-  -- it has its type's MIR type
-  pub header-typed : (h : Header) → Is T.the-row h (hval h ∷ []) → Holds (hasTy T′.mir (hval h)) × WT (hval h)
-  header-typed h is = LL.lawful T.the-type T′.the-laws 𝓤 H A W .typed h _ is .0
+-- a declared struct's machine value is the one that its type tells
+pub struct-is : (D : Declared) (L : LL.Laws D) (d : D .D) (v : Val) → Is (row D) d (v ∷ []) → v ≡ LL.val D L d
+struct-is D L d v is = ap only (LL.tells D L d (v ∷ []) is)
+
+-- and has its MIR type
+pub struct-typed : {M : Type 1} (𝓤 : URA M) (H : Heap 𝓤) (A : Atoms 𝓤) (W : Given 𝓤 H A) (D : Declared) (L : LL.Laws D) (d : D .D) (v : Val) → Is (row D) d (v ∷ []) → Holds (hasTy (layout (shape D)) v) × WT v
+struct-typed 𝓤 H A W D L d v is = LL.lawful D L 𝓤 H A W .typed d (v ∷ []) is .0
 
 module _ {M : Type 1} {𝓤 : URA M} {H : Heap 𝓤} {A : Atoms 𝓤} {K : Type 0} {W : Given 𝓤 H A} {Γ : List (Item 𝓤)} {G : Goal 𝓤 H} where
-  -- what a header owns is had for nothing
-  pub header-owned : K → (h : Header) → Is T.the-row h (hval h ∷ []) → Step K W (‵ (T.the-row .own h (hval h ∷ [])) ∷ Γ) G Γ G
-  header-owned t h is = owned t T.the-row (Is T.the-row) (LL.makes T.the-type T′.the-plain 𝓤 H A) h (hval h ∷ []) is
+  -- what a declared struct of plain data owns is had for nothing
+  pub struct-owned : K → (D : Declared) (L : LL.Laws D) → Plains (fields D) → (d : D .D) → Is (row D) d (LL.vals D L d) → Step K W (‵ (row D .own d (LL.vals D L d)) ∷ Γ) G Γ G
+  struct-owned t D L plains d is = owned t (row D) (Is (row D)) (LL.makes D plains 𝓤 H A) d (LL.vals D L d) is
 
 module _ {M : Type 1} {𝓤 : URA M} {H : Heap 𝓤} {A : Atoms 𝓤} {K : Type 0} {W : Given 𝓤 H A} {Γ : List (Item 𝓤)} {G : Goal 𝓤 H} where
   -- the borrow of a header is opened, with its machine value written out, and closed at another header
@@ -79,4 +83,4 @@ module _ {M : Type 1} {𝓤 : URA M} {H : Heap 𝓤} {A : Atoms 𝓤} {K : Type 
   pub header-closes : K → Soaks G → {κ : Lft} {q : Share} {u v : Gv} (x : RefT Header) (h : Header) → Is T.the-row h (hval h ∷ [])
       → Step K W (‵ (fobs (x .name) (T.the-row .coded .code h)) ∷ ‵ (fbor κ (Body (mem T.the-row) (x .ptr .0) (x .ptr .1) (x .name))) ∷ ‵ (flft κ q) ∷ Γ) G
       (‵ (cellAt fullShare (T.the-row .mir) (hval h ∷ []) (x .ptr .0) (x .ptr .1)) ∷ ‵ (fobor κ q (Body (mem T.the-row) (x .ptr .0) (x .ptr .1) (x .name))) ∷ ‵ (fobs (x .name) u) ∷ ‵ (fauth (x .name) v) ∷ Γ) G
-  header-closes t z x h is = step (λ s. header-owned t h is $ move t (1 ∷ 0 ∷ []) $ closes t z T.the-row h (hval h ∷ []) (x .ptr .0) (x .ptr .1) $ s)
+  header-closes t z x h is = step (λ s. struct-owned t T.the-type T′.the-laws T′.the-plain h is $ move t (1 ∷ 0 ∷ []) $ closes t z T.the-row h (hval h ∷ []) (x .ptr .0) (x .ptr .1) $ s)
