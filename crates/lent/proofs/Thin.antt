@@ -1,4 +1,4 @@
--- What the proofs of the calls on a lent header share: the names that a walk brings, passed on, and the borrow of a header, opened and closed.
+-- What the proofs of the calls on a lent header share: the names that a walk brings, passed on; what any declared struct has; and the borrow of a header, opened and closed.
 -- Assumes nothing.
 pub use mathlib.Core.Path.{_≡_, refl}
 pub use mathlib.Core.List.{[], _∷_, List}

@@ -59,6 +59,7 @@ module _ {M : Type 1} (𝓤 : URA M) (H : Heap 𝓤) (A : Atoms 𝓤) (W : Given
   abbrev Said : Outcome → Lasts g.ended κs′ a′ → SProp 𝓤
   Said r zs = g.clauses 𝓤 H A at-mem run κs′ a′ .ensures tt r (atExit g.ended κs′ a′ zs)
 
+  -- what of the parameters goes to the callee
   abbrev given : List (Item 𝓤)
   given = ‵ (flft (κs .0) (qs .0)) ∷ ‵ (flft (κs .1 .0) (qs .1 .0)) ∷ ‵ (flft (κs .1 .1 .1 .0) (qs .1 .1 .1 .0)) ∷ ‵ (flft (κs .1 .1 .1 .1 .0) (qs .1 .1 .1 .1 .0)) ∷ ‵ ((MutSlice (named 0) (κs .0) u64) .own (a .0) (vals .0)) ∷ ‵ ((MutSlice (named 1) (κs .1 .0) u64) .own (a .1 .0) (vals .1 .0)) ∷ ‵ ((ShrSlice (named 2) (κs .1 .1 .1 .0) u8) .own (a .1 .1 .1 .0) (vals .1 .1 .1 .0)) ∷ ‵ ((ShrSlice (named 3) (κs .1 .1 .1 .1 .0) u8) .own (a .1 .1 .1 .1 .0) (vals .1 .1 .1 .1 .0)) ∷ []
 
@@ -67,6 +68,7 @@ module _ {M : Type 1} (𝓤 : URA M) (H : Heap 𝓤) (A : Atoms 𝓤) (W : Given
       qed W given ∵
       nothing ! $ move ! (1 ∷ 2 ∷ 3 ∷ 4 ∷ 0 ∷ []) $ group ! 5 $ nothing ! $ owned ! u32 (Is u32) (uint-makes 𝓤 H A W w32) (a .1 .1 .1 .1 .1 .1 .0) _ (are .1 .1 .1 .1 .1 .1 .0) $ fjoin ! $ owned ! u16 (Is u16) (uint-makes 𝓤 H A W w16) (a .1 .1 .1 .1 .1 .0) _ (are .1 .1 .1 .1 .1 .0) $ fjoin ! $ move ! (5 ∷ 0 ∷ []) $ fjoin ! $ move ! (4 ∷ 0 ∷ []) $ fjoin ! $ struct-owned ! T.the-type T′.the-laws T′.the-plain (lent .now) was $ fjoin ! $ move ! (3 ∷ 0 ∷ []) $ fjoin ! $ move ! (2 ∷ 0 ∷ []) $ fjoin ! $ move ! (1 ∷ 0 ∷ []) $ join ! $ frame ! $ done !
 
+  -- what the walk has when the callee has returned r, the header is stored and the locals are gone
   abbrev tokens : Item 𝓤
   tokens = ‵ (flft (κs .0) (qs .0)) ⊛ ‵ (flft (κs .1 .0) (qs .1 .0)) ⊛ ‵ (flft (κs .1 .1 .1 .0) (qs .1 .1 .1 .0)) ⊛ ‵ (flft (κs .1 .1 .1 .1 .0) (qs .1 .1 .1 .1 .0)) ⊛ ‵ ftrue
 
@@ -88,7 +90,7 @@ module _ {M : Type 1} (𝓤 : URA M) (H : Heap 𝓤) (A : Atoms 𝓤) (W : Given
         alloc1 ! (λ l0. alloc1 ! (λ l1. alloc1 ! (λ l2. alloc1 ! (λ l3. alloc1 ! (λ l4. alloc1 ! (λ l5. alloc1 ! (λ l6. alloc1 ! (λ l7. alloc1 ! (λ l8. alloc1 ! (λ l9. alloc1 ! (λ l10. alloc1 ! (λ l11. alloc1 ! (λ l12. alloc1 ! (λ l13. alloc0 ! $ params1 ! $
         pass1 ! (init ! 24 refl (tt, (tt, (record { fits = are .0 .0 .1 .0 }, tt)))) $ pass1 ! (init ! 22 refl (tt, (tt, (record { fits = are .1 .0 .0 .1 .0 }, tt)))) $ pass1 ! (init ! 20 refl (tt, tt)) $ pass1 ! (init ! 18 refl (tt, (tt, (record { fits = are .1 .1 .1 .0 .0 .1 .0 }, tt)))) $ pass1 ! (init ! 16 refl (tt, (tt, (record { fits = are .1 .1 .1 .1 .0 .0 .1 .0 }, tt)))) $ pass1 ! (init ! 14 refl (tt, record { fits = are .1 .1 .1 .1 .1 .0 .1 })) $ pass1 ! (init ! 12 refl (tt, record { fits = are .1 .1 .1 .1 .1 .1 .0 .1 })) $ pass0 ! $
         -- the parameters are taken apart, and the header's borrow is opened
-        move ! (29 ∷ []) $ fsplit ! $ move ! (1 ∷ []) $ fsplit ! $ move ! (1 ∷ []) $ fsplit ! $ move ! (1 ∷ []) $ fsplit ! $ move ! (1 ∷ []) $ fsplit ! $ move ! (1 ∷ []) $ fsplit ! $ move ! (1 ∷ []) $ fsplit ! $ move ! (5 ∷ []) $ fsplit3 ! $ drop ! $ move ! (37 ∷ []) $ split ! $ move ! (1 ∷ []) $ split ! $ move ! (1 ∷ []) $ split ! $ move ! (1 ∷ []) $ split ! $ move ! (1 ∷ []) $ split ! $ move ! (6 ∷ 7 ∷ 3 ∷ []) $ header-opens ! tt (lent) (λ was.
+        move ! (29 ∷ []) $ fsplit ! $ move ! (1 ∷ []) $ fsplit ! $ move ! (1 ∷ []) $ fsplit ! $ move ! (1 ∷ []) $ fsplit ! $ move ! (1 ∷ []) $ fsplit ! $ move ! (1 ∷ []) $ fsplit ! $ move ! (1 ∷ []) $ fsplit ! $ move ! (5 ∷ []) $ fsplit3 ! $ drop ! $ move ! (37 ∷ []) $ split ! $ move ! (1 ∷ []) $ split ! $ move ! (1 ∷ []) $ split ! $ move ! (1 ∷ []) $ split ! $ move ! (1 ∷ []) $ split ! $ move ! (6 ∷ 7 ∷ 3 ∷ []) $ header-opens ! tt lent (λ was.
         -- in the order of the arguments: each `&mut [u64]` is lent on, at its own lifetime, and the header is copied
         assigns ! (addr ! (from ! (fld ! refl (hop ! (look-in ! 40 (sub ! 0 refl (whole !))) (stop !))))) (from ! (stop !)) (init ! 24 refl (tt, tt)) $
         assigns ! (agg ! (and-then ! (load ! (from ! (stop !)) (look ! 24 refl)) (and-then ! (load ! (from ! (fld ! refl (stop !))) (look-in ! 40 (sub ! 1 refl (whole !)))) (no-more !)))) (from ! (stop !)) (init ! 22 refl (tt, (tt, (record { fits = are .0 .0 .1 .0 }, tt)))) $
@@ -106,9 +108,9 @@ module _ {M : Type 1} (𝓤 : URA M) (H : Heap 𝓤) (A : Atoms 𝓤) (W : Given
         -- the header is stored whole, the outcome is put together, and the borrow is closed
         assigns ! (of-opd ! (load ! (from ! (fld ! refl (stop !))) (look-in ! 24 (sub ! 2 refl (whole !))))) (from ! (hop ! (look ! 34 refl) (stop !))) (store-raw ! 6 refl (struct-typed 𝓤 H A W T.the-type T′.the-laws (r .header) _ (header-is r v is))) $
         assigns ! (agg ! (and-then ! (load ! (from ! (fld ! refl (stop !))) (look-in ! 24 (sub ! 0 refl (whole !)))) (and-then ! (load ! (from ! (fld ! refl (stop !))) (look-in ! 24 (sub ! 1 refl (whole !)))) (no-more !)))) (from ! (stop !)) (init ! 40 refl (struct-typed 𝓤 H A W O.the-type O′.the-laws (outcome r) _ (outcome-is r v is))) $
-        move ! (6 ∷ 7 ∷ 8 ∷ 9 ∷ []) $ header-closes ! tt (lent) (r .header) (header-is r v is) $
+        move ! (6 ∷ 7 ∷ 8 ∷ 9 ∷ []) $ header-closes ! tt lent (r .header) (header-is r v is) $
         returns ! (look ! 39 refl) $ forget ! 13 refl $ forget ! 15 refl $ forget ! 17 refl $ forget ! 19 refl $ forget ! 21 refl $ forget ! 23 refl $ forget ! 25 refl $ forget ! 27 refl $ forget ! 29 refl $ forget ! 31 refl $ forget ! 33 refl $ forget ! 35 refl $ forget ! 37 refl $ forget ! 39 refl $
-        move ! (39 ∷ 40 ∷ []) $ free1 ! $ move ! (37 ∷ 38 ∷ []) $ free1 ! $ move ! (35 ∷ 36 ∷ []) $ free1 ! $ move ! (33 ∷ 34 ∷ []) $ free1 ! $ move ! (31 ∷ 32 ∷ []) $ free1 ! $ move ! (29 ∷ 30 ∷ []) $ free1 ! $ move ! (27 ∷ 28 ∷ []) $ free1 ! $ move ! (25 ∷ 26 ∷ []) $ free1 ! $ move ! (23 ∷ 24 ∷ []) $ free1 ! $ move ! (21 ∷ 22 ∷ []) $ free1 ! $ move ! (19 ∷ 20 ∷ []) $ free1 ! $ move ! (17 ∷ 18 ∷ []) $ free1 ! $ move ! (15 ∷ 16 ∷ []) $ free1 ! $ move ! (13 ∷ 14 ∷ []) $ free1 ! $ free0 ! $
+        move ! (39 ∷ 40 ∷ 37 ∷ 38 ∷ 35 ∷ 36 ∷ 33 ∷ 34 ∷ 31 ∷ 32 ∷ 29 ∷ 30 ∷ 27 ∷ 28 ∷ 25 ∷ 26 ∷ 23 ∷ 24 ∷ 21 ∷ 22 ∷ 19 ∷ 20 ∷ 17 ∷ 18 ∷ 15 ∷ 16 ∷ 13 ∷ 14 ∷ []) $ free1 ! $ free1 ! $ free1 ! $ free1 ! $ free1 ! $ free1 ! $ free1 ! $ free1 ! $ free1 ! $ free1 ! $ free1 ! $ free1 ! $ free1 ! $ free1 ! $ free0 ! $
         keep ! (0 ∷ 1 ∷ 2 ∷ 4 ∷ 7 ∷ 5 ∷ 8 ∷ []) $ by ! (exits r v zs l0 l1 is))))))))))))))))))))))
 
 meets : {M : Type 1} (𝓤 : URA M) (H : Heap 𝓤) (A : Atoms 𝓤) → Given 𝓤 H A → (mem : Memory → SProp 𝓤) (run : Routine → Fun 𝓤) (𝓣 : Tables 𝓤 H) → Triple 𝓤 (𝓣 .C #callee) (Callee 𝓤 H A mem run)

@@ -6,11 +6,11 @@ use Rattle.lent.proofs.Thin.{some, later, _$_, _∵_, !, qed, by, move,
 use Rattle.lent.proofs.Thin.{assigns, land, returns, enter, alloc1, alloc0, params1, pass1, pass0, free1, free0, agg, whole, sub, look-in, Body, FmC, fmOf, WpFn-mono, owns, Is, Are, Ises, shows, mem, u64, MutRef, ptr-vals, mut-tells, MutSlice, finally, slice-vals, mut-slice-tells, plain, typesAt, peeks, nothing, Args, Vals, onEntry}
 use Rattle.lent.proofs.Thin.{Meets, tripleOf, Contract, Triple, calls-at, lasts, atExit, Lasts, entered, cited, Stays, stay-ref, stay-dropped, gave-slice, walkOf, goes-ref, goes-dropped, goes-gave-slice, ends-at, walked, walk-meets, yes, only, hval, header-opens, header-closes, RefT, Item, struct-is, struct-typed, struct-owned}
 use Rattle.lent.proofs.OfCycle.{oval, outcome, header-is, outcome-is}
+use Rattle.lent.proofs.Ceilings.{ceiling-vals, ceiling-tells, ceiling-typed, ceiling-owned}
 use Rattle.cycle.specs.declared.Outcome.{Outcome}
 use Rattle.machine.specs.declared.Header.{Header}
 use Rattle.machine.proofs.Header as T
 use Rattle.machine.proofs.Header.Laws as T′
-use Rattle.lent.proofs.Ceilings.{ceiling-vals, ceiling-tells, ceiling-typed, ceiling-owned}
 use Rattle.machine.proofs.Ceiling as E
 use Rattle.cycle.proofs.Outcome as S
 use Rattle.cycle.proofs.Outcome.Laws as S′
@@ -60,6 +60,7 @@ module _ {M : Type 1} (𝓤 : URA M) (H : Heap 𝓤) (A : Atoms 𝓤) (W : Given
   abbrev Said : Outcome → Lasts g.ended κs′ a′ → SProp 𝓤
   Said r zs = g.clauses 𝓤 H A at-mem run κs′ a′ .ensures tt r (atExit g.ended κs′ a′ zs)
 
+  -- what of the parameters goes to the callee
   abbrev given : List (Item 𝓤)
   given = ‵ (flft (κs .0) (qs .0)) ∷ ‵ (flft (κs .1 .0) (qs .1 .0)) ∷ ‵ ((MutSlice (named 0) (κs .0) u64) .own (a .0) (vals .0)) ∷ ‵ ((MutSlice (named 1) (κs .1 .0) u64) .own (a .1 .0) (vals .1 .0)) ∷ []
 
@@ -68,6 +69,7 @@ module _ {M : Type 1} (𝓤 : URA M) (H : Heap 𝓤) (A : Atoms 𝓤) (W : Given
       qed W given ∵
       nothing ! $ move ! (1 ∷ 2 ∷ 0 ∷ []) $ group ! 3 $ nothing ! $ ceiling-owned ! (a .1 .1 .1 .0) (are .1 .1 .1 .0) $ fjoin ! $ struct-owned ! T.the-type T′.the-laws T′.the-plain (lent .now) was $ fjoin ! $ move ! (3 ∷ 0 ∷ []) $ fjoin ! $ move ! (2 ∷ 0 ∷ []) $ fjoin ! $ move ! (1 ∷ 0 ∷ []) $ join ! $ frame ! $ done !
 
+  -- what the walk has when the callee has returned r, the header is stored and the locals are gone
   abbrev tokens : Item 𝓤
   tokens = ‵ (flft (κs .0) (qs .0)) ⊛ ‵ (flft (κs .1 .0) (qs .1 .0)) ⊛ ‵ ftrue
 
@@ -89,7 +91,7 @@ module _ {M : Type 1} (𝓤 : URA M) (H : Heap 𝓤) (A : Atoms 𝓤) (W : Given
         alloc1 ! (λ l0. alloc1 ! (λ l1. alloc1 ! (λ l2. alloc1 ! (λ l3. alloc1 ! (λ l4. alloc1 ! (λ l5. alloc1 ! (λ l6. alloc1 ! (λ l7. alloc1 ! (λ l8. alloc1 ! (λ l9. alloc1 ! (λ l10. alloc0 ! $ params1 ! $
         pass1 ! (init ! 18 refl (tt, (tt, (record { fits = are .0 .0 .1 .0 }, tt)))) $ pass1 ! (init ! 16 refl (tt, (tt, (record { fits = are .1 .0 .0 .1 .0 }, tt)))) $ pass1 ! (init ! 14 refl (tt, tt)) $ pass1 ! (init ! 12 refl (ceiling-typed 𝓤 H A W (a .1 .1 .1 .0) (are .1 .1 .1 .0))) $ pass0 ! $
         -- the parameters are taken apart, and the header's borrow is opened
-        move ! (23 ∷ []) $ fsplit ! $ move ! (1 ∷ []) $ fsplit ! $ move ! (1 ∷ []) $ fsplit ! $ move ! (1 ∷ []) $ fsplit ! $ move ! (2 ∷ []) $ fsplit3 ! $ drop ! $ move ! (28 ∷ []) $ split ! $ move ! (1 ∷ []) $ split ! $ move ! (1 ∷ []) $ split ! $ move ! (4 ∷ 5 ∷ 0 ∷ []) $ header-opens ! tt (lent) (λ was.
+        move ! (23 ∷ []) $ fsplit ! $ move ! (1 ∷ []) $ fsplit ! $ move ! (1 ∷ []) $ fsplit ! $ move ! (1 ∷ []) $ fsplit ! $ move ! (2 ∷ []) $ fsplit3 ! $ drop ! $ move ! (28 ∷ []) $ split ! $ move ! (1 ∷ []) $ split ! $ move ! (1 ∷ []) $ split ! $ move ! (4 ∷ 5 ∷ 0 ∷ []) $ header-opens ! tt lent (λ was.
         -- in the order of the arguments: each `&mut [u64]` is lent on, at its own lifetime, and the header is copied
         assigns ! (addr ! (from ! (fld ! refl (hop ! (look-in ! 29 (sub ! 0 refl (whole !))) (stop !))))) (from ! (stop !)) (init ! 19 refl (tt, tt)) $
         assigns ! (agg ! (and-then ! (load ! (from ! (stop !)) (look ! 19 refl)) (and-then ! (load ! (from ! (fld ! refl (stop !))) (look-in ! 29 (sub ! 1 refl (whole !)))) (no-more !)))) (from ! (stop !)) (init ! 17 refl (tt, (tt, (record { fits = are .0 .0 .1 .0 }, tt)))) $
@@ -107,9 +109,9 @@ module _ {M : Type 1} (𝓤 : URA M) (H : Heap 𝓤) (A : Atoms 𝓤) (W : Given
         -- the header is stored whole, the outcome is put together, and the borrow is closed
         assigns ! (of-opd ! (load ! (from ! (fld ! refl (stop !))) (look-in ! 23 (sub ! 3 refl (whole !))))) (from ! (hop ! (look ! 27 refl) (stop !))) (store-raw ! 6 refl (struct-typed 𝓤 H A W T.the-type T′.the-laws (r .header) _ (header-is r v is))) $
         assigns ! (agg ! (and-then ! (load ! (from ! (fld ! refl (stop !))) (look-in ! 23 (sub ! 0 refl (whole !)))) (and-then ! (load ! (from ! (fld ! refl (stop !))) (look-in ! 23 (sub ! 1 refl (whole !)))) (and-then ! (load ! (from ! (fld ! refl (stop !))) (look-in ! 23 (sub ! 2 refl (whole !)))) (no-more !))))) (from ! (stop !)) (init ! 33 refl (struct-typed 𝓤 H A W O.the-type O′.the-laws (outcome r) _ (outcome-is r v is))) $
-        move ! (6 ∷ 7 ∷ 8 ∷ 9 ∷ []) $ header-closes ! tt (lent) (r .header) (header-is r v is) $
+        move ! (6 ∷ 7 ∷ 8 ∷ 9 ∷ []) $ header-closes ! tt lent (r .header) (header-is r v is) $
         returns ! (look ! 32 refl) $ forget ! 12 refl $ forget ! 14 refl $ forget ! 16 refl $ forget ! 18 refl $ forget ! 20 refl $ forget ! 22 refl $ forget ! 24 refl $ forget ! 26 refl $ forget ! 28 refl $ forget ! 30 refl $ forget ! 32 refl $
-        move ! (32 ∷ 33 ∷ []) $ free1 ! $ move ! (30 ∷ 31 ∷ []) $ free1 ! $ move ! (28 ∷ 29 ∷ []) $ free1 ! $ move ! (26 ∷ 27 ∷ []) $ free1 ! $ move ! (24 ∷ 25 ∷ []) $ free1 ! $ move ! (22 ∷ 23 ∷ []) $ free1 ! $ move ! (20 ∷ 21 ∷ []) $ free1 ! $ move ! (18 ∷ 19 ∷ []) $ free1 ! $ move ! (16 ∷ 17 ∷ []) $ free1 ! $ move ! (14 ∷ 15 ∷ []) $ free1 ! $ move ! (12 ∷ 13 ∷ []) $ free1 ! $ free0 ! $
+        move ! (32 ∷ 33 ∷ 30 ∷ 31 ∷ 28 ∷ 29 ∷ 26 ∷ 27 ∷ 24 ∷ 25 ∷ 22 ∷ 23 ∷ 20 ∷ 21 ∷ 18 ∷ 19 ∷ 16 ∷ 17 ∷ 14 ∷ 15 ∷ 12 ∷ 13 ∷ []) $ free1 ! $ free1 ! $ free1 ! $ free1 ! $ free1 ! $ free1 ! $ free1 ! $ free1 ! $ free1 ! $ free1 ! $ free1 ! $ free0 ! $
         keep ! (0 ∷ 1 ∷ 2 ∷ 4 ∷ 7 ∷ 5 ∷ 8 ∷ []) $ by ! (exits r v zs l0 l1 is)))))))))))))))))))
 
 meets : {M : Type 1} (𝓤 : URA M) (H : Heap 𝓤) (A : Atoms 𝓤) → Given 𝓤 H A → (mem : Memory → SProp 𝓤) (run : Routine → Fun 𝓤) (𝓣 : Tables 𝓤 H) → Triple 𝓤 (𝓣 .C #callee) (Callee 𝓤 H A mem run)

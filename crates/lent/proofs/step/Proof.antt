@@ -58,6 +58,7 @@ module _ {M : Type 1} (𝓤 : URA M) (H : Heap 𝓤) (A : Atoms 𝓤) (W : Given
   abbrev Said : Outcome → Lasts g.ended κs′ a′ → SProp 𝓤
   Said r zs = g.clauses 𝓤 H A at-mem run κs′ a′ .ensures tt r (atExit g.ended κs′ a′ zs)
 
+  -- what of the parameters goes to the callee
   abbrev given : List (Item 𝓤)
   given = ‵ (flft (κs .0) (qs .0)) ∷ ‵ (flft (κs .1 .0) (qs .1 .0)) ∷ ‵ ((MutSlice (named 0) (κs .0) u64) .own (a .0) (vals .0)) ∷ ‵ ((MutSlice (named 1) (κs .1 .0) u64) .own (a .1 .0) (vals .1 .0)) ∷ []
 
@@ -66,6 +67,7 @@ module _ {M : Type 1} (𝓤 : URA M) (H : Heap 𝓤) (A : Atoms 𝓤) (W : Given
       qed W given ∵
       nothing ! $ move ! (1 ∷ 2 ∷ 0 ∷ []) $ group ! 3 $ nothing ! $ struct-owned ! T.the-type T′.the-laws T′.the-plain (lent .now) was $ fjoin ! $ move ! (3 ∷ 0 ∷ []) $ fjoin ! $ move ! (2 ∷ 0 ∷ []) $ fjoin ! $ move ! (1 ∷ 0 ∷ []) $ join ! $ frame ! $ done !
 
+  -- what the walk has when the callee has returned r, the header is stored and the locals are gone
   abbrev tokens : Item 𝓤
   tokens = ‵ (flft (κs .0) (qs .0)) ⊛ ‵ (flft (κs .1 .0) (qs .1 .0)) ⊛ ‵ ftrue
 
@@ -87,7 +89,7 @@ module _ {M : Type 1} (𝓤 : URA M) (H : Heap 𝓤) (A : Atoms 𝓤) (W : Given
         alloc1 ! (λ l0. alloc1 ! (λ l1. alloc1 ! (λ l2. alloc1 ! (λ l3. alloc1 ! (λ l4. alloc1 ! (λ l5. alloc1 ! (λ l6. alloc1 ! (λ l7. alloc1 ! (λ l8. alloc1 ! (λ l9. alloc0 ! $ params1 ! $
         pass1 ! (init ! 16 refl (tt, (tt, (record { fits = are .0 .0 .1 .0 }, tt)))) $ pass1 ! (init ! 14 refl (tt, (tt, (record { fits = are .1 .0 .0 .1 .0 }, tt)))) $ pass1 ! (init ! 12 refl (tt, tt)) $ pass0 ! $
         -- the parameters are taken apart, and the header's borrow is opened
-        move ! (21 ∷ []) $ fsplit ! $ move ! (1 ∷ []) $ fsplit ! $ move ! (1 ∷ []) $ fsplit ! $ fsplit3 ! $ drop ! $ move ! (25 ∷ []) $ split ! $ move ! (1 ∷ []) $ split ! $ move ! (1 ∷ []) $ split ! $ move ! (4 ∷ 5 ∷ 0 ∷ []) $ header-opens ! tt (lent) (λ was.
+        move ! (21 ∷ []) $ fsplit ! $ move ! (1 ∷ []) $ fsplit ! $ move ! (1 ∷ []) $ fsplit ! $ fsplit3 ! $ drop ! $ move ! (25 ∷ []) $ split ! $ move ! (1 ∷ []) $ split ! $ move ! (1 ∷ []) $ split ! $ move ! (4 ∷ 5 ∷ 0 ∷ []) $ header-opens ! tt lent (λ was.
         -- in the order of the arguments: each `&mut [u64]` is lent on, at its own lifetime, and the header is copied
         assigns ! (addr ! (from ! (fld ! refl (hop ! (look-in ! 26 (sub ! 0 refl (whole !))) (stop !))))) (from ! (stop !)) (init ! 18 refl (tt, tt)) $
         assigns ! (agg ! (and-then ! (load ! (from ! (stop !)) (look ! 18 refl)) (and-then ! (load ! (from ! (fld ! refl (stop !))) (look-in ! 26 (sub ! 1 refl (whole !)))) (no-more !)))) (from ! (stop !)) (init ! 16 refl (tt, (tt, (record { fits = are .0 .0 .1 .0 }, tt)))) $
@@ -105,9 +107,9 @@ module _ {M : Type 1} (𝓤 : URA M) (H : Heap 𝓤) (A : Atoms 𝓤) (W : Given
         -- the header is stored whole, the outcome is put together, and the borrow is closed
         assigns ! (of-opd ! (load ! (from ! (fld ! refl (stop !))) (look-in ! 22 (sub ! 3 refl (whole !))))) (from ! (hop ! (look ! 24 refl) (stop !))) (store-raw ! 6 refl (struct-typed 𝓤 H A W T.the-type T′.the-laws (r .header) _ (header-is r v is))) $
         assigns ! (agg ! (and-then ! (load ! (from ! (fld ! refl (stop !))) (look-in ! 22 (sub ! 0 refl (whole !)))) (and-then ! (load ! (from ! (fld ! refl (stop !))) (look-in ! 22 (sub ! 1 refl (whole !)))) (and-then ! (load ! (from ! (fld ! refl (stop !))) (look-in ! 22 (sub ! 2 refl (whole !)))) (no-more !))))) (from ! (stop !)) (init ! 30 refl (struct-typed 𝓤 H A W O.the-type O′.the-laws (outcome r) _ (outcome-is r v is))) $
-        move ! (6 ∷ 7 ∷ 8 ∷ 9 ∷ []) $ header-closes ! tt (lent) (r .header) (header-is r v is) $
+        move ! (6 ∷ 7 ∷ 8 ∷ 9 ∷ []) $ header-closes ! tt lent (r .header) (header-is r v is) $
         returns ! (look ! 29 refl) $ forget ! 11 refl $ forget ! 13 refl $ forget ! 15 refl $ forget ! 17 refl $ forget ! 19 refl $ forget ! 21 refl $ forget ! 23 refl $ forget ! 25 refl $ forget ! 27 refl $ forget ! 29 refl $
-        move ! (29 ∷ 30 ∷ []) $ free1 ! $ move ! (27 ∷ 28 ∷ []) $ free1 ! $ move ! (25 ∷ 26 ∷ []) $ free1 ! $ move ! (23 ∷ 24 ∷ []) $ free1 ! $ move ! (21 ∷ 22 ∷ []) $ free1 ! $ move ! (19 ∷ 20 ∷ []) $ free1 ! $ move ! (17 ∷ 18 ∷ []) $ free1 ! $ move ! (15 ∷ 16 ∷ []) $ free1 ! $ move ! (13 ∷ 14 ∷ []) $ free1 ! $ move ! (11 ∷ 12 ∷ []) $ free1 ! $ free0 ! $
+        move ! (29 ∷ 30 ∷ 27 ∷ 28 ∷ 25 ∷ 26 ∷ 23 ∷ 24 ∷ 21 ∷ 22 ∷ 19 ∷ 20 ∷ 17 ∷ 18 ∷ 15 ∷ 16 ∷ 13 ∷ 14 ∷ 11 ∷ 12 ∷ []) $ free1 ! $ free1 ! $ free1 ! $ free1 ! $ free1 ! $ free1 ! $ free1 ! $ free1 ! $ free1 ! $ free1 ! $ free0 ! $
         keep ! (0 ∷ 1 ∷ 2 ∷ 4 ∷ 7 ∷ 5 ∷ 8 ∷ []) $ by ! (exits r v zs l0 l1 is))))))))))))))))))
 
 meets : {M : Type 1} (𝓤 : URA M) (H : Heap 𝓤) (A : Atoms 𝓤) → Given 𝓤 H A → (mem : Memory → SProp 𝓤) (run : Routine → Fun 𝓤) (𝓣 : Tables 𝓤 H) → Triple 𝓤 (𝓣 .C #callee) (Callee 𝓤 H A mem run)
