@@ -1,0 +1,4 @@
+pub mod Thin
+pub mod OfCycle
+pub mod OfSim
+pub mod Ceilings
