@@ -84,7 +84,7 @@ fn refuse(answer: Answer, header: Header) -> Played
 
 // The warriors of a file that reads are loaded into a core of its size, and run with no ceiling given.
 fn play_loaded(file: &[u8], size: u32, count: usize, core: &mut [u64], queue: &mut [u64]) -> Played
-    requires { ⌜ (fault (now file) ≡ Nowhere) × (count ≡ warriorsIn (now file)) × (length (now core) ≡ size) × (length (now queue) ≡ 2000) ⌝ }
+    requires { ⌜ (fault (now file) ≡ Nowhere) × (count ≡ warriorsIn (now file)) ⌝ }
     ensures { λ r. ⌜ (resultOf (r .ran) (r .answer) (r .steps) (r .writes) (r .header)
         ≡ spec.afterFresh (now (file .entry)) (begins.fresh size (now (core .entry)) (now (queue .entry))))
         × (r .ran ≡ true → r .header .held ≤ 16) ⌝ }

@@ -43,7 +43,7 @@ slice-aggregate-lent : tie.Need-slice-aggregate-lent
 slice-aggregate-lent c = sym (length-take-le (c .before .before .before .before .before .before .read .result .size) (c .before .before .before .before .before .before .before .before .before .before .before .args .core .now) (omega (arith, c .before .before .if3 .left, c .before .before .before .before .before .before .before .before .before .before .before .pre .0)))
 
 play-loaded-requires : tie.Need-play-loaded-requires
-play-loaded-requires c κs = (reads (c .before .before .before .before .before .before .before .before .before .before .before .before .args .file .now) (omega (arith, c .before .before .before .before .before .before .before .before .if1 .left)) (c .before .before .before .before .before .before .before .read .result .answer) (c .before .before .before .before .before .before .before .read .ensures .0) (c .before .before .before .before .before .before .number .ensures) (c .before .before .before .before .before .if2 .left), is-read (c .before .before .before .before .before .before .before .before .before .before .before .before .args .file .now) (omega (arith, c .before .before .before .before .before .before .before .before .if1 .left)) (c .before .before .before .before .before .before .before .read .result .answer) (c .before .before .before .before .before .before .before .read .ensures .0) (c .before .before .before .before .before .before .number .ensures) (c .before .before .before .before .before .if2 .left) (c .before .before .before .before .before .before .before .read .ensures .1), length-take-le (c .before .before .before .before .before .before .before .read .result .size) (c .before .before .before .before .before .before .before .before .before .before .before .before .args .core .now) (omega (arith, c .before .before .before .if3 .left, c .before .before .before .before .before .before .before .before .before .before .before .before .pre .0)), c .before .before .before .before .before .before .before .before .before .before .before .before .pre .1)
+play-loaded-requires c κs = (reads (c .before .before .before .before .before .before .before .before .before .before .before .before .args .file .now) (omega (arith, c .before .before .before .before .before .before .before .before .if1 .left)) (c .before .before .before .before .before .before .before .read .result .answer) (c .before .before .before .before .before .before .before .read .ensures .0) (c .before .before .before .before .before .before .number .ensures) (c .before .before .before .before .before .if2 .left), is-read (c .before .before .before .before .before .before .before .before .before .before .before .before .args .file .now) (omega (arith, c .before .before .before .before .before .before .before .before .if1 .left)) (c .before .before .before .before .before .before .before .read .result .answer) (c .before .before .before .before .before .before .before .read .ensures .0) (c .before .before .before .before .before .before .number .ensures) (c .before .before .before .before .before .if2 .left) (c .before .before .before .before .before .before .before .read .ensures .1))
 
 same-length : tie.Need-same-length
 same-length c = search needs
