@@ -2,7 +2,8 @@
 
 use load_file::offset::Absolute;
 
-// 16 name slots: 32 bytes, a length, a count and a next thread number each.
+// 16 name slots: 32 bytes, a length, a count and a next thread number each. Laid out as C lays it out, since programs in C and Rust hold one.
+#[repr(C)]
 pub struct Header {
     pub size: u32,
     pub head: u32,
