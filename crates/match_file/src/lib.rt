@@ -2,7 +2,7 @@
 ghost use mathlib.Core.Path.{_≡_};
 ghost use Rattle.answer.specs.Numbers.{told};
 ghost use Rattle.match_file.specs.Faults.{fault, faultAt};
-ghost use Rattle.match_file.specs.Reading.{toldBy, zeroed, emptied, warriorsIn, sizeIn, countOf, warriorOf};
+ghost use Rattle.match_file.specs.Reading.{toldBy, zeroed, emptied, warriorsIn, sizeIn, lineAt, nameStart, nameLength, bodyStart, countOf, warriorOf};
 use answer::Answer;
 use fault::Fault;
 use fault::first_fault;
@@ -20,9 +20,12 @@ pub struct Contents {
     pub size: u32,
 }
 
-// What the contents say of a warrior beside its name: instruction count, origin and place.
+// What the contents say of a warrior: where in the file its name begins and how long it is, where its body begins, its instruction count, origin and place.
 pub struct Line {
     pub answer: Answer,
+    pub name_start: usize,
+    pub name_length: usize,
+    pub body_start: usize,
     pub count: u16,
     pub origin: u16,
     pub place: u32,
@@ -53,11 +56,17 @@ pub fn read_line(file: &[u8], number: usize) -> Line
     ensures { λ r. ⌜ (told (r .answer) ≡ toldBy (faultAt (now (file .entry)) number))
         × (r .count ≡ zeroed (faultAt (now (file .entry)) number) (countOf (now (file .entry)) number))
         × (r .origin ≡ zeroed (faultAt (now (file .entry)) number) (warriorOf (now (file .entry)) number .origin))
-        × (r .place ≡ zeroed (faultAt (now (file .entry)) number) (warriorOf (now (file .entry)) number .place)) ⌝ }
+        × (r .place ≡ zeroed (faultAt (now (file .entry)) number) (warriorOf (now (file .entry)) number .place))
+        × (r .«name_start» ≡ zeroed (faultAt (now (file .entry)) number) (nameStart (lineAt number)))
+        × (r .«name_length» ≡ zeroed (faultAt (now (file .entry)) number) (nameLength (now (file .entry)) (lineAt number)))
+        × (r .«body_start» ≡ zeroed (faultAt (now (file .entry)) number) (bodyStart (now (file .entry)) (lineAt number))) ⌝ }
 {
     match first_fault_at(file, number) {
         Fault::At(p) => Line {
             answer: Answer::Malformed(p),
+            name_start: 0,
+            name_length: 0,
+            body_start: 0,
             count: 0,
             origin: 0,
             place: 0,
@@ -66,6 +75,9 @@ pub fn read_line(file: &[u8], number: usize) -> Line
             let at = 4 + 43 * number;
             Line {
                 answer: Answer::Done,
+                name_start: at + 1,
+                name_length: file[at] as usize,
+                body_start: number32(file, at + 33) as usize,
                 count: number16(file, at + 37),
                 origin: number16(file, at + 39),
                 place: number16(file, at + 41) as u32,

@@ -1,27 +1,27 @@
--- `lent::step` meets its contract: a walk of its MIR, by hand. The header's borrow is opened and copied, `cycle::step` is called on the copy, and on each slice at its own lifetime, share and name (they are given up for good),
--- the header that it returns is stored whole, and the borrow is closed there. What `step` ensures is by computation what `cycle::step` ensures, so the walk reads neither.
+-- `sumacadze::sumacadze_step` meets its contract: a walk of its MIR, by hand. The header's borrow is opened and copied, `by_value::step` is called on the copy, and on each slice at its own lifetime, share and name (they are given up for good),
+-- the header that it returns is stored whole, and the borrow is closed there. What `sumacadze_step` ensures is by computation what `by_value::step` ensures, so the walk reads neither.
 -- Assumes nothing.
-use Rattle.lent.proofs.Thin.{_≡_, refl, [], _∷_, List, length, URA, fullShare, named, Val, SProp, ent, emp, via, fst∗, id⊢, ftrue, flft, fobs, fbor, fat, Memory, Routine, Heap, Calls, Loops, WpFn, Tables, Atoms, Lfts, Shares, Fun, givenOf, tables, tablesOf, Given, ‵, raw, _⊛_, ⋆}
-use Rattle.lent.proofs.Thin.{some, later, _$_, _∵_, !, qed, by, move, keep, drop, use1, split, join, group, pick, rewrite, fsplit, fsplit3, fjoin, fjoin3, feqI, feqL, suffices, frame, await, done, look, look-raw, init, store-raw, forget, stop, hop, fld, from, load, addr, of-opd, and-then, no-more}
-use Rattle.lent.proofs.Thin.{assigns, land, returns, enter, alloc1, alloc0, params1, pass1, pass0, free1, free0, agg, whole, sub, look-in, Body, FmC, fmOf, WpFn-mono, owns, Is, Are, Ises, shows, mem, u64, MutRef, ptr-vals, mut-tells, MutSlice, finally, slice-vals, mut-slice-tells, plain, typesAt, peeks, nothing, Args, Vals, onEntry}
-use Rattle.lent.proofs.Thin.{Meets, tripleOf, Contract, Triple, calls-at, lasts, atExit, Lasts, entered, cited, Stays, stay-ref, gave-slice, walkOf, goes-ref, goes-gave-slice, ends-at, walked, walk-meets, only, hval, header-opens, header-closes, RefT, Item, struct-is, struct-typed, struct-owned}
-use Rattle.lent.proofs.OfCycle.{oval, outcome, header-is, outcome-is}
-use Rattle.cycle.specs.declared.Outcome.{Outcome}
+use Rattle.sumacadze.proofs.Thin.{_≡_, refl, [], _∷_, List, length, URA, fullShare, named, Val, SProp, ent, emp, via, fst∗, id⊢, ftrue, flft, fobs, fbor, fat, Memory, Routine, Heap, Calls, Loops, WpFn, Tables, Atoms, Lfts, Shares, Fun, givenOf, tables, tablesOf, Given, Item, ‵, raw, _⊛_, ⋆, some, later, _$_}
+use Rattle.sumacadze.proofs.Thin.{_∵_, !, qed, by, move, keep, drop, use1, split, join, group, pick, rewrite, fsplit, fsplit3, fjoin, fjoin3, feqI, feqL, suffices, frame, await, done, look, look-raw, init, store-raw, forget, stop, hop, fld, from, load, addr, of-opd, and-then, no-more, assigns, land, returns, enter, alloc1, alloc0, params1}
+use Rattle.sumacadze.proofs.Thin.{pass1, pass0, free1, free0, agg, whole, sub, look-in, Body, FmC, fmOf, WpFn-mono, owns, Is, Are, Ises, shows, mem, u64, RefT, MutRef, ptr-vals, mut-tells, MutSlice, finally, slice-vals, mut-slice-tells, plain, typesAt, only, peeks, nothing, Args, Vals, onEntry, Meets, tripleOf, Contract, Triple, calls-at, lasts, atExit, Lasts, entered}
+use Rattle.sumacadze.proofs.Thin.{cited, Stays, stay-ref, gave-slice, walkOf, goes-ref, goes-gave-slice, ends-at, walked, walk-meets, hval, struct-is, struct-typed, struct-owned, header-opens, header-closes}
+use Rattle.sumacadze.proofs.Outcomes.{report, rval, header-is, report-is}
+use Rattle.sumacadze.specs.declared.by_value.Outcome.{Outcome}
 use Rattle.machine.specs.declared.Header.{Header}
 use Rattle.machine.proofs.Header as T
 use Rattle.machine.proofs.Header.Laws as T′
-use Rattle.cycle.proofs.Outcome as S
-use Rattle.cycle.proofs.Outcome.Laws as S′
-use Rattle.lent.proofs.Played as O
-use Rattle.lent.proofs.Played.Laws as O′
-use Rattle.cycle.proofs.step as g
-use Rattle.cycle.proofs.step.Symbol as g-def
-use Rattle.cycle.proofs.step.Symbol.{name as #callee}
-use Rattle.cycle.proofs.step.Met as g-thm
-use Rattle.lent.proofs.step.Key.{name as #self}
-use Rattle.lent.proofs.step as f
-use Rattle.lent.proofs.step.Statement as stated
-use Rattle.lent.proofs.step.Code as code
+use Rattle.sumacadze.proofs.by_value.Outcome as S
+use Rattle.sumacadze.proofs.by_value.Outcome.Laws as S′
+use Rattle.sumacadze.proofs.Report as O
+use Rattle.sumacadze.proofs.Report.Laws as O′
+use Rattle.sumacadze.proofs.by_value.step as g
+use Rattle.sumacadze.proofs.by_value.step.Symbol as g-def
+use Rattle.sumacadze.proofs.by_value.step.Symbol.{name as #callee}
+use Rattle.sumacadze.proofs.by_value.step.Met as g-thm
+use Rattle.sumacadze.proofs.sumacadze_step.Key.{name as #self}
+use Rattle.sumacadze.proofs.sumacadze_step as f
+use Rattle.sumacadze.proofs.sumacadze_step.Statement as stated
+use Rattle.sumacadze.proofs.sumacadze_step.Code as code
 
 abbrev stayed : Stays (f.ended .signature .params) (f.ended .kept)
 stayed = (gave-slice (0 ∷ []) tt (plain (λ _. u64)), (gave-slice (1 ∷ []) tt (plain (λ _. u64)), (stay-ref (2 ∷ []) tt (plain (λ _. T.the-row)), tt)))
@@ -75,11 +75,11 @@ module _ {M : Type 1} (𝓤 : URA M) (H : Heap 𝓤) (A : Atoms 𝓤) (W : Given
   left r zs = ‵ (fobs (lent .name) (T.the-row .coded .code (r .header))) ∷ ‵ (fbor (κs .1 .1 .0) (Body (mem T.the-row) (lent .ptr .0) (lent .ptr .1) (lent .name))) ∷ ‵ (flft (κs .1 .1 .0) (qs .1 .1 .0)) ∷ tokens ∷ ‵ (finally u64 (a .0 .name) (zs .0)) ∷ ‵ (finally u64 (a .1 .0 .name) (zs .1 .0)) ∷ raw (Said r zs) ∷ []
 
   exits : (r : Outcome) (v : Val) (zs : Lasts g.ended κs′ a′) → length (zs .0) ≡ length (a .0 .now) → length (zs .1 .0) ≡ length (a .1 .0 .now) → Is S.the-row r (v ∷ [])
-      → ent 𝓤 (⋆ 𝓤 H A (left r zs)) (Post (oval r))
+      → ent 𝓤 (⋆ 𝓤 H A (left r zs)) (Post (rval r))
   exits r v zs l0 l1 is =
       qed W (left r zs) ∵
-      suffices ! _ (ends-at 𝓤 H A f.ended stayed (f.clauses 𝓤 H A at-mem run) W ((κs, qs, tt, a, vals), tt) (oval r) (outcome r) (zs .0, (zs .1 .0, (r .header, tt))) (l0, (l1, (tt, tt)))) $
-      move ! (3 ∷ []) $ split ! $ move ! (1 ∷ []) $ split ! $ move ! (2 ∷ 0 ∷ 5 ∷ 1 ∷ []) $ group ! 4 $ struct-owned ! O.the-type O′.the-laws O′.the-plain (outcome r) (outcome-is r v is) $ nothing ! $ move ! (3 ∷ 4 ∷ 0 ∷ []) $ feqI ! (List Val) (vals .1 .1 .0) (vals .1 .1 .0) refl $ fjoin3 ! $ fjoin ! $ move ! (4 ∷ 0 ∷ []) $ fjoin ! $ move ! (3 ∷ 0 ∷ []) $ fjoin ! $ move ! (2 ∷ 0 ∷ 1 ∷ []) $ group ! 3 $ frame ! $ done !
+      suffices ! _ (ends-at 𝓤 H A f.ended stayed (f.clauses 𝓤 H A at-mem run) W ((κs, qs, tt, a, vals), tt) (rval r) (report r) (zs .0, (zs .1 .0, (r .header, tt))) (l0, (l1, (tt, tt)))) $
+      move ! (3 ∷ []) $ split ! $ move ! (1 ∷ []) $ split ! $ move ! (2 ∷ 0 ∷ 5 ∷ 1 ∷ []) $ group ! 4 $ struct-owned ! O.the-type O′.the-laws O′.the-plain (report r) (report-is r v is) $ nothing ! $ move ! (3 ∷ 4 ∷ 0 ∷ []) $ feqI ! (List Val) (vals .1 .1 .0) (vals .1 .1 .0) refl $ fjoin3 ! $ fjoin ! $ move ! (4 ∷ 0 ∷ []) $ fjoin ! $ move ! (3 ∷ 0 ∷ []) $ fjoin ! $ move ! (2 ∷ 0 ∷ 1 ∷ []) $ group ! 3 $ frame ! $ done !
 
   module _ (C : Calls 𝓤 H) (Λ : Loops 𝓤 H) (fm : FmC 𝓤 H (W .laws) C) (known : Triple 𝓤 (C #callee) (Callee 𝓤 H A at-mem run)) where
     walk : ent 𝓤 (onEntry 𝓤 H A f.signature κs qs a vals) (WpFn 𝓤 H C Λ code.function (only (vals .0) ∷ only (vals .1 .0) ∷ only (vals .1 .1 .0) ∷ []) Post)
@@ -105,11 +105,11 @@ module _ {M : Type 1} (𝓤 : URA M) (H : Heap 𝓤) (A : Atoms 𝓤) (W : Given
         move ! (4 ∷ []) $ split ! $ move ! (1 ∷ []) $ peeks ! S.the-row (Is S.the-row) (shows 𝓤 H A S.the-row) r (v ∷ []) (λ is.
         land ! (from ! (stop !)) (init ! 22 refl (struct-typed 𝓤 H A W S.the-type S′.the-laws r v is)) $ rewrite ! 22 (λ (u : Val). ‵ (fat fullShare S′.mir l4 0 u)) (struct-is S.the-type S′.the-laws r v is) refl $
         -- the header is stored whole, the outcome is put together, and the borrow is closed
-        assigns ! (of-opd ! (load ! (from ! (fld ! refl (stop !))) (look-in ! 22 (sub ! 3 refl (whole !))))) (from ! (hop ! (look ! 24 refl) (stop !))) (store-raw ! 6 refl (struct-typed 𝓤 H A W T.the-type T′.the-laws (r .header) _ (header-is r v is))) $
-        assigns ! (agg ! (and-then ! (load ! (from ! (fld ! refl (stop !))) (look-in ! 22 (sub ! 0 refl (whole !)))) (and-then ! (load ! (from ! (fld ! refl (stop !))) (look-in ! 22 (sub ! 1 refl (whole !)))) (and-then ! (load ! (from ! (fld ! refl (stop !))) (look-in ! 22 (sub ! 2 refl (whole !)))) (no-more !))))) (from ! (stop !)) (init ! 30 refl (struct-typed 𝓤 H A W O.the-type O′.the-laws (outcome r) _ (outcome-is r v is))) $
+        assigns ! (of-opd ! (load ! (from ! (fld ! refl (stop !))) (look-in ! 22 (sub ! 4 refl (whole !))))) (from ! (hop ! (look ! 24 refl) (stop !))) (store-raw ! 6 refl (struct-typed 𝓤 H A W T.the-type T′.the-laws (r .header) _ (header-is r v is))) $
+        assigns ! (agg ! (and-then ! (load ! (from ! (fld ! refl (stop !))) (look-in ! 22 (sub ! 0 refl (whole !)))) (and-then ! (load ! (from ! (fld ! refl (stop !))) (look-in ! 22 (sub ! 1 refl (whole !)))) (and-then ! (load ! (from ! (fld ! refl (stop !))) (look-in ! 22 (sub ! 2 refl (whole !)))) (and-then ! (load ! (from ! (fld ! refl (stop !))) (look-in ! 22 (sub ! 3 refl (whole !)))) (no-more !)))))) (from ! (stop !)) (init ! 30 refl (struct-typed 𝓤 H A W O.the-type O′.the-laws (report r) _ (report-is r v is))) $
         move ! (6 ∷ 7 ∷ 8 ∷ 9 ∷ []) $ header-closes ! tt lent (r .header) (header-is r v is) $
         returns ! (look ! 29 refl) $ forget ! 11 refl $ forget ! 13 refl $ forget ! 15 refl $ forget ! 17 refl $ forget ! 19 refl $ forget ! 21 refl $ forget ! 23 refl $ forget ! 25 refl $ forget ! 27 refl $ forget ! 29 refl $
-        move ! (29 ∷ 30 ∷ 27 ∷ 28 ∷ 25 ∷ 26 ∷ 23 ∷ 24 ∷ 21 ∷ 22 ∷ 19 ∷ 20 ∷ 17 ∷ 18 ∷ 15 ∷ 16 ∷ 13 ∷ 14 ∷ 11 ∷ 12 ∷ []) $ free1 ! $ free1 ! $ free1 ! $ free1 ! $ free1 ! $ free1 ! $ free1 ! $ free1 ! $ free1 ! $ free1 ! $ free0 ! $
+        move ! (29 ∷ 30 ∷ []) $ free1 ! $ move ! (27 ∷ 28 ∷ []) $ free1 ! $ move ! (25 ∷ 26 ∷ []) $ free1 ! $ move ! (23 ∷ 24 ∷ []) $ free1 ! $ move ! (21 ∷ 22 ∷ []) $ free1 ! $ move ! (19 ∷ 20 ∷ []) $ free1 ! $ move ! (17 ∷ 18 ∷ []) $ free1 ! $ move ! (15 ∷ 16 ∷ []) $ free1 ! $ move ! (13 ∷ 14 ∷ []) $ free1 ! $ move ! (11 ∷ 12 ∷ []) $ free1 ! $ free0 ! $
         keep ! (0 ∷ 1 ∷ 2 ∷ 4 ∷ 7 ∷ 5 ∷ 8 ∷ []) $ by ! (exits r v zs l0 l1 is))))))))))))))))))
 
 meets : {M : Type 1} (𝓤 : URA M) (H : Heap 𝓤) (A : Atoms 𝓤) → Given 𝓤 H A → (mem : Memory → SProp 𝓤) (run : Routine → Fun 𝓤) (𝓣 : Tables 𝓤 H) → Triple 𝓤 (𝓣 .C #callee) (Callee 𝓤 H A mem run)
@@ -120,10 +120,10 @@ meets 𝓤 H A W mem run 𝓣 known =
     (walked 𝓤 H A f.ended stayed (f.clauses 𝓤 H A mem run) (WpFn 𝓤 H (𝓣 .C) (𝓣 .Λ) code.function) (λ κs. (slice-vals, (slice-vals, (ptr-vals, tt)))) (λ κs. (mut-slice-tells (named 0) (κs .0) u64, (mut-slice-tells (named 1) (κs .1 .0) u64, (mut-tells (named 2) (κs .1 .1 .0) T.the-row, tt))))
     (λ κs qs bounds a g are. via 𝓤 _ (fst∗ 𝓤 _ (emp 𝓤)) (walk 𝓤 H A W mem run κs qs a are (𝓣 .C) (𝓣 .Λ) (fmOf 𝓤 H (W .laws) 𝓣) known)))
 
-pub step-spec : {M : Type 1} → stated.statement M
+pub sumacadze-step-spec : {M : Type 1} → stated.statement M
 unfolding code.routine tablesOf
-step-spec 𝓤 H 𝓜 𝓖 𝓡 =
+sumacadze-step-spec 𝓤 H 𝓜 𝓖 𝓡 =
     entered 𝓤 H (tripleOf 𝓤 H (𝓖 .A) f.signature (f.spec 𝓤 H (𝓖 .A) (𝓜 .mem) (𝓡 .run)))
     (tables 𝓤 H 𝓜 𝓡 code.env .C) (tables 𝓤 H 𝓜 𝓡 code.env .Λ) #self code.function (code.unfolded 𝓤 H 𝓜 𝓡)
     (meets 𝓤 H (𝓖 .A) (givenOf 𝓤 H 𝓜 𝓖) (𝓜 .mem) (𝓡 .run) (tablesOf 𝓤 H 𝓜 (tables 𝓤 H 𝓜 𝓡 code.env))
-    (cited 𝓤 H (Callee 𝓤 H (𝓖 .A) (𝓜 .mem) (𝓡 .run)) 𝓜 𝓡 code.env #callee g-def.routine code.calls-cycle·step (g-thm.met 𝓤 H 𝓜 𝓖 𝓡)))
+    (cited 𝓤 H (Callee 𝓤 H (𝓖 .A) (𝓜 .mem) (𝓡 .run)) 𝓜 𝓡 code.env #callee g-def.routine code.calls-sumacadze·by-value·step (g-thm.met 𝓤 H 𝓜 𝓖 𝓡)))

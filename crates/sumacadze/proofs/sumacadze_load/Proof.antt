@@ -1,28 +1,27 @@
--- `lent::load` meets its contract: a walk of its MIR, by hand. The header's borrow is opened and copied, `sim::warrior::load` is called on the copy, and on each slice at its own lifetime, share and name (they are given up for good),
--- the header that it returns is stored whole, and the borrow is closed there. What `load` ensures is by computation what `sim::warrior::load` ensures, so the walk reads neither.
+-- `sumacadze::sumacadze_load` meets its contract: a walk of its MIR, by hand. The header's borrow is opened and copied, `by_value::load` is called on the copy, and on each slice at its own lifetime, share and name (they are given up for good),
+-- the header that it returns is stored whole, and the borrow is closed there. What `sumacadze_load` ensures is by computation what `by_value::load` ensures, so the walk reads neither.
 -- Assumes nothing.
-use Rattle.lent.proofs.Thin.{_≡_, refl, [], _∷_, List, length, URA, fullShare, named, w16, w32, Val, SProp, ent, emp, via, fst∗, id⊢, ftrue, flft, fobs, fbor, fat, Memory, Routine, Heap, Calls, Loops, WpFn, Tables, Atoms, Lfts, Shares, Fun, givenOf, tables, tablesOf, Given, ‵, raw}
-use Rattle.lent.proofs.Thin.{_⊛_, ⋆, some, later, _$_, _∵_, !, qed, by, move, keep, drop, use1, split, join, group, pick, rewrite, fsplit, fsplit3, fjoin, fjoin3, feqI, feqL, suffices, frame, await, done, look, look-raw, init, store-raw, forget, stop, hop, fld, from, load, addr, of-opd}
-use Rattle.lent.proofs.Thin.{and-then, no-more, assigns, land, returns, enter, alloc1, alloc0, params1, pass1, pass0, free1, free0, agg, whole, sub, look-in, Body, FmC, fmOf, WpFn-mono, owns, Is, Are, Ises, shows, mem, uint-makes, uint-vals, uint-tells, u8, u16, u32, u64, MutRef, ptr-vals, mut-tells, MutSlice, ShrSlice, finally}
-use Rattle.lent.proofs.Thin.{slice-vals, mut-slice-tells, shr-slice-tells, plain, shrSliceOf, typesAt, owned, peeks, nothing, Args, Vals, onEntry, Meets, tripleOf, Contract, Triple, calls-at, lasts, atExit, Lasts, entered, cited, Stays, stay-ref, stay-dropped, gave-slice, walkOf, goes-ref, goes-dropped, goes-gave-slice, ends-at, walked, walk-meets, yes, only, hval, header-opens, header-closes, RefT, Item}
-use Rattle.lent.proofs.Thin.{struct-is, struct-typed, struct-owned}
-use Rattle.lent.proofs.OfSim.{oval, outcome, header-is, outcome-is}
-use Rattle.sim.specs.declared.Outcome.{Outcome}
+use Rattle.sumacadze.proofs.Thin.{_≡_, refl, [], _∷_, List, length, URA, fullShare, named, w16, w32, Val, SProp, ent, emp, via, fst∗, id⊢, ftrue, flft, fobs, fbor, fat, Memory, Routine, Heap, Calls, Loops, WpFn, Tables, Atoms, Lfts, Shares, Fun, givenOf, tables, tablesOf, Given, Item, ‵, raw, _⊛_, ⋆, some}
+use Rattle.sumacadze.proofs.Thin.{later, _$_, _∵_, !, qed, by, move, keep, drop, use1, split, join, group, pick, rewrite, fsplit, fsplit3, fjoin, fjoin3, feqI, feqL, suffices, frame, await, done, look, look-raw, init, store-raw, forget, stop, hop, fld, from, load, addr, of-opd, and-then, no-more, assigns, land, returns, enter, alloc1}
+use Rattle.sumacadze.proofs.Thin.{alloc0, params1, pass1, pass0, free1, free0, agg, whole, sub, look-in, Body, FmC, fmOf, WpFn-mono, owns, Is, Are, Ises, shows, mem, uint-makes, uint-vals, uint-tells, u8, u16, u32, u64, RefT, MutRef, ptr-vals, mut-tells, MutSlice, ShrSlice, finally, slice-vals, mut-slice-tells, shr-slice-tells, plain, shrSliceOf, typesAt, only, owned, peeks, nothing}
+use Rattle.sumacadze.proofs.Thin.{Args, Vals, onEntry, Meets, tripleOf, Contract, Triple, calls-at, lasts, atExit, Lasts, entered, cited, Stays, stay-ref, stay-dropped, gave-slice, walkOf, goes-ref, goes-dropped, goes-gave-slice, ends-at, walked, walk-meets, yes, hval, struct-is, struct-typed, struct-owned, header-opens, header-closes}
+use Rattle.sumacadze.proofs.Outcomes.{report, rval, header-is, report-is}
+use Rattle.sumacadze.specs.declared.by_value.Outcome.{Outcome}
 use Rattle.machine.specs.declared.Header.{Header}
 use Rattle.machine.proofs.Header as T
 use Rattle.machine.proofs.Header.Laws as T′
-use Rattle.sim.proofs.Outcome as S
-use Rattle.sim.proofs.Outcome.Laws as S′
-use Rattle.lent.proofs.Loaded as O
-use Rattle.lent.proofs.Loaded.Laws as O′
-use Rattle.sim.proofs.warrior.load as g
-use Rattle.sim.proofs.warrior.load.Symbol as g-def
-use Rattle.sim.proofs.warrior.load.Symbol.{name as #callee}
-use Rattle.sim.proofs.warrior.load.Met as g-thm
-use Rattle.lent.proofs.load.Key.{name as #self}
-use Rattle.lent.proofs.load as f
-use Rattle.lent.proofs.load.Statement as stated
-use Rattle.lent.proofs.load.Code as code
+use Rattle.sumacadze.proofs.by_value.Outcome as S
+use Rattle.sumacadze.proofs.by_value.Outcome.Laws as S′
+use Rattle.sumacadze.proofs.Report as O
+use Rattle.sumacadze.proofs.Report.Laws as O′
+use Rattle.sumacadze.proofs.by_value.load as g
+use Rattle.sumacadze.proofs.by_value.load.Symbol as g-def
+use Rattle.sumacadze.proofs.by_value.load.Symbol.{name as #callee}
+use Rattle.sumacadze.proofs.by_value.load.Met as g-thm
+use Rattle.sumacadze.proofs.sumacadze_load.Key.{name as #self}
+use Rattle.sumacadze.proofs.sumacadze_load as f
+use Rattle.sumacadze.proofs.sumacadze_load.Statement as stated
+use Rattle.sumacadze.proofs.sumacadze_load.Code as code
 
 abbrev stayed : Stays (f.ended .signature .params) (f.ended .kept)
 stayed = (gave-slice (0 ∷ []) tt (plain (λ _. u64)), (gave-slice (1 ∷ []) tt (plain (λ _. u64)), (stay-ref (2 ∷ []) tt (plain (λ _. T.the-row)), (stay-dropped (shrSliceOf (3 ∷ []) tt (plain (λ _. u8))) yes, (stay-dropped (shrSliceOf (4 ∷ []) tt (plain (λ _. u8))) yes, (stay-dropped (plain (λ _. u16)) yes, (stay-dropped (plain (λ _. u32)) yes, tt)))))))
@@ -76,11 +75,11 @@ module _ {M : Type 1} (𝓤 : URA M) (H : Heap 𝓤) (A : Atoms 𝓤) (W : Given
   left r zs = ‵ (fobs (lent .name) (T.the-row .coded .code (r .header))) ∷ ‵ (fbor (κs .1 .1 .0) (Body (mem T.the-row) (lent .ptr .0) (lent .ptr .1) (lent .name))) ∷ ‵ (flft (κs .1 .1 .0) (qs .1 .1 .0)) ∷ tokens ∷ ‵ (finally u64 (a .0 .name) (zs .0)) ∷ ‵ (finally u64 (a .1 .0 .name) (zs .1 .0)) ∷ raw (Said r zs) ∷ []
 
   exits : (r : Outcome) (v : Val) (zs : Lasts g.ended κs′ a′) → length (zs .0) ≡ length (a .0 .now) → length (zs .1 .0) ≡ length (a .1 .0 .now) → Is S.the-row r (v ∷ [])
-      → ent 𝓤 (⋆ 𝓤 H A (left r zs)) (Post (oval r))
+      → ent 𝓤 (⋆ 𝓤 H A (left r zs)) (Post (rval r))
   exits r v zs l0 l1 is =
       qed W (left r zs) ∵
-      suffices ! _ (ends-at 𝓤 H A f.ended stayed (f.clauses 𝓤 H A at-mem run) W ((κs, qs, tt, a, vals), tt) (oval r) (outcome r) (zs .0, (zs .1 .0, (r .header, (tt, (tt, (tt, (tt, tt))))))) (l0, (l1, (tt, (tt, (tt, (tt, (tt, tt)))))))) $
-      move ! (3 ∷ []) $ split ! $ move ! (1 ∷ []) $ split ! $ move ! (1 ∷ []) $ split ! $ move ! (1 ∷ []) $ split ! $ move ! (4 ∷ 3 ∷ 7 ∷ 2 ∷ 0 ∷ 1 ∷ []) $ group ! 6 $ struct-owned ! O.the-type O′.the-laws O′.the-plain (outcome r) (outcome-is r v is) $ nothing ! $ nothing ! $ fjoin ! $ nothing ! $ fjoin ! $ nothing ! $ fjoin ! $ nothing ! $ fjoin ! $ move ! (3 ∷ 4 ∷ 0 ∷ []) $ feqI ! (List Val) (vals .1 .1 .0) (vals .1 .1 .0) refl $ fjoin3 ! $ fjoin ! $ move ! (4 ∷ 0 ∷ []) $ fjoin ! $ move ! (3 ∷ 0 ∷ []) $ fjoin ! $ move ! (2 ∷ 0 ∷ 1 ∷ []) $ group ! 3 $ frame ! $ done !
+      suffices ! _ (ends-at 𝓤 H A f.ended stayed (f.clauses 𝓤 H A at-mem run) W ((κs, qs, tt, a, vals), tt) (rval r) (report r) (zs .0, (zs .1 .0, (r .header, (tt, (tt, (tt, (tt, tt))))))) (l0, (l1, (tt, (tt, (tt, (tt, (tt, tt)))))))) $
+      move ! (3 ∷ []) $ split ! $ move ! (1 ∷ []) $ split ! $ move ! (1 ∷ []) $ split ! $ move ! (1 ∷ []) $ split ! $ move ! (4 ∷ 3 ∷ 7 ∷ 2 ∷ 0 ∷ 1 ∷ []) $ group ! 6 $ struct-owned ! O.the-type O′.the-laws O′.the-plain (report r) (report-is r v is) $ nothing ! $ nothing ! $ fjoin ! $ nothing ! $ fjoin ! $ nothing ! $ fjoin ! $ nothing ! $ fjoin ! $ move ! (3 ∷ 4 ∷ 0 ∷ []) $ feqI ! (List Val) (vals .1 .1 .0) (vals .1 .1 .0) refl $ fjoin3 ! $ fjoin ! $ move ! (4 ∷ 0 ∷ []) $ fjoin ! $ move ! (3 ∷ 0 ∷ []) $ fjoin ! $ move ! (2 ∷ 0 ∷ 1 ∷ []) $ group ! 3 $ frame ! $ done !
 
   module _ (C : Calls 𝓤 H) (Λ : Loops 𝓤 H) (fm : FmC 𝓤 H (W .laws) C) (known : Triple 𝓤 (C #callee) (Callee 𝓤 H A at-mem run)) where
     walk : ent 𝓤 (onEntry 𝓤 H A f.signature κs qs a vals) (WpFn 𝓤 H C Λ code.function (only (vals .0) ∷ only (vals .1 .0) ∷ only (vals .1 .1 .0) ∷ only (vals .1 .1 .1 .0) ∷ only (vals .1 .1 .1 .1 .0) ∷ only (vals .1 .1 .1 .1 .1 .0) ∷ only (vals .1 .1 .1 .1 .1 .1 .0) ∷ []) Post)
@@ -106,11 +105,11 @@ module _ {M : Type 1} (𝓤 : URA M) (H : Heap 𝓤) (A : Atoms 𝓤) (W : Given
         move ! (4 ∷ []) $ split ! $ move ! (1 ∷ []) $ peeks ! S.the-row (Is S.the-row) (shows 𝓤 H A S.the-row) r (v ∷ []) (λ is.
         land ! (from ! (stop !)) (init ! 24 refl (struct-typed 𝓤 H A W S.the-type S′.the-laws r v is)) $ rewrite ! 24 (λ (u : Val). ‵ (fat fullShare S′.mir l8 0 u)) (struct-is S.the-type S′.the-laws r v is) refl $
         -- the header is stored whole, the outcome is put together, and the borrow is closed
-        assigns ! (of-opd ! (load ! (from ! (fld ! refl (stop !))) (look-in ! 24 (sub ! 2 refl (whole !))))) (from ! (hop ! (look ! 34 refl) (stop !))) (store-raw ! 6 refl (struct-typed 𝓤 H A W T.the-type T′.the-laws (r .header) _ (header-is r v is))) $
-        assigns ! (agg ! (and-then ! (load ! (from ! (fld ! refl (stop !))) (look-in ! 24 (sub ! 0 refl (whole !)))) (and-then ! (load ! (from ! (fld ! refl (stop !))) (look-in ! 24 (sub ! 1 refl (whole !)))) (no-more !)))) (from ! (stop !)) (init ! 40 refl (struct-typed 𝓤 H A W O.the-type O′.the-laws (outcome r) _ (outcome-is r v is))) $
+        assigns ! (of-opd ! (load ! (from ! (fld ! refl (stop !))) (look-in ! 24 (sub ! 4 refl (whole !))))) (from ! (hop ! (look ! 34 refl) (stop !))) (store-raw ! 6 refl (struct-typed 𝓤 H A W T.the-type T′.the-laws (r .header) _ (header-is r v is))) $
+        assigns ! (agg ! (and-then ! (load ! (from ! (fld ! refl (stop !))) (look-in ! 24 (sub ! 0 refl (whole !)))) (and-then ! (load ! (from ! (fld ! refl (stop !))) (look-in ! 24 (sub ! 1 refl (whole !)))) (and-then ! (load ! (from ! (fld ! refl (stop !))) (look-in ! 24 (sub ! 2 refl (whole !)))) (and-then ! (load ! (from ! (fld ! refl (stop !))) (look-in ! 24 (sub ! 3 refl (whole !)))) (no-more !)))))) (from ! (stop !)) (init ! 40 refl (struct-typed 𝓤 H A W O.the-type O′.the-laws (report r) _ (report-is r v is))) $
         move ! (6 ∷ 7 ∷ 8 ∷ 9 ∷ []) $ header-closes ! tt lent (r .header) (header-is r v is) $
         returns ! (look ! 39 refl) $ forget ! 13 refl $ forget ! 15 refl $ forget ! 17 refl $ forget ! 19 refl $ forget ! 21 refl $ forget ! 23 refl $ forget ! 25 refl $ forget ! 27 refl $ forget ! 29 refl $ forget ! 31 refl $ forget ! 33 refl $ forget ! 35 refl $ forget ! 37 refl $ forget ! 39 refl $
-        move ! (39 ∷ 40 ∷ 37 ∷ 38 ∷ 35 ∷ 36 ∷ 33 ∷ 34 ∷ 31 ∷ 32 ∷ 29 ∷ 30 ∷ 27 ∷ 28 ∷ 25 ∷ 26 ∷ 23 ∷ 24 ∷ 21 ∷ 22 ∷ 19 ∷ 20 ∷ 17 ∷ 18 ∷ 15 ∷ 16 ∷ 13 ∷ 14 ∷ []) $ free1 ! $ free1 ! $ free1 ! $ free1 ! $ free1 ! $ free1 ! $ free1 ! $ free1 ! $ free1 ! $ free1 ! $ free1 ! $ free1 ! $ free1 ! $ free1 ! $ free0 ! $
+        move ! (39 ∷ 40 ∷ []) $ free1 ! $ move ! (37 ∷ 38 ∷ []) $ free1 ! $ move ! (35 ∷ 36 ∷ []) $ free1 ! $ move ! (33 ∷ 34 ∷ []) $ free1 ! $ move ! (31 ∷ 32 ∷ []) $ free1 ! $ move ! (29 ∷ 30 ∷ []) $ free1 ! $ move ! (27 ∷ 28 ∷ []) $ free1 ! $ move ! (25 ∷ 26 ∷ []) $ free1 ! $ move ! (23 ∷ 24 ∷ []) $ free1 ! $ move ! (21 ∷ 22 ∷ []) $ free1 ! $ move ! (19 ∷ 20 ∷ []) $ free1 ! $ move ! (17 ∷ 18 ∷ []) $ free1 ! $ move ! (15 ∷ 16 ∷ []) $ free1 ! $ move ! (13 ∷ 14 ∷ []) $ free1 ! $ free0 ! $
         keep ! (0 ∷ 1 ∷ 2 ∷ 4 ∷ 7 ∷ 5 ∷ 8 ∷ []) $ by ! (exits r v zs l0 l1 is))))))))))))))))))))))
 
 meets : {M : Type 1} (𝓤 : URA M) (H : Heap 𝓤) (A : Atoms 𝓤) → Given 𝓤 H A → (mem : Memory → SProp 𝓤) (run : Routine → Fun 𝓤) (𝓣 : Tables 𝓤 H) → Triple 𝓤 (𝓣 .C #callee) (Callee 𝓤 H A mem run)
@@ -121,10 +120,10 @@ meets 𝓤 H A W mem run 𝓣 known =
     (walked 𝓤 H A f.ended stayed (f.clauses 𝓤 H A mem run) (WpFn 𝓤 H (𝓣 .C) (𝓣 .Λ) code.function) (λ κs. (slice-vals, (slice-vals, (ptr-vals, (slice-vals, (slice-vals, (uint-vals w16, (uint-vals w32, tt)))))))) (λ κs. (mut-slice-tells (named 0) (κs .0) u64, (mut-slice-tells (named 1) (κs .1 .0) u64, (mut-tells (named 2) (κs .1 .1 .0) T.the-row, (shr-slice-tells (named 3) (κs .1 .1 .1 .0) u8, (shr-slice-tells (named 4) (κs .1 .1 .1 .1 .0) u8, (uint-tells w16, (uint-tells w32, tt))))))))
     (λ κs qs bounds a g are. via 𝓤 _ (fst∗ 𝓤 _ (emp 𝓤)) (walk 𝓤 H A W mem run κs qs a are (𝓣 .C) (𝓣 .Λ) (fmOf 𝓤 H (W .laws) 𝓣) known)))
 
-pub load-spec : {M : Type 1} → stated.statement M
+pub sumacadze-load-spec : {M : Type 1} → stated.statement M
 unfolding code.routine tablesOf
-load-spec 𝓤 H 𝓜 𝓖 𝓡 =
+sumacadze-load-spec 𝓤 H 𝓜 𝓖 𝓡 =
     entered 𝓤 H (tripleOf 𝓤 H (𝓖 .A) f.signature (f.spec 𝓤 H (𝓖 .A) (𝓜 .mem) (𝓡 .run)))
     (tables 𝓤 H 𝓜 𝓡 code.env .C) (tables 𝓤 H 𝓜 𝓡 code.env .Λ) #self code.function (code.unfolded 𝓤 H 𝓜 𝓡)
     (meets 𝓤 H (𝓖 .A) (givenOf 𝓤 H 𝓜 𝓖) (𝓜 .mem) (𝓡 .run) (tablesOf 𝓤 H 𝓜 (tables 𝓤 H 𝓜 𝓡 code.env))
-    (cited 𝓤 H (Callee 𝓤 H (𝓖 .A) (𝓜 .mem) (𝓡 .run)) 𝓜 𝓡 code.env #callee g-def.routine code.calls-sim·warrior·load (g-thm.met 𝓤 H 𝓜 𝓖 𝓡)))
+    (cited 𝓤 H (Callee 𝓤 H (𝓖 .A) (𝓜 .mem) (𝓡 .run)) 𝓜 𝓡 code.env #callee g-def.routine code.calls-sumacadze·by-value·load (g-thm.met 𝓤 H 𝓜 𝓖 𝓡)))

@@ -1,4 +1,0 @@
-pub mod Thin
-pub mod OfCycle
-pub mod OfSim
-pub mod Ceilings

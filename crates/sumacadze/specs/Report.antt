@@ -1,0 +1,34 @@
+-- What a call gives back in numbers, put together with the record that it leaves.
+-- Assumes nothing.
+use Prim.Native.Nat.{ℕ}
+use mathlib.Core.Bool.{Bool, true, false}
+use Rattle.load_file.specs.declared.Cell.{Cell}
+use Rattle.load_file.specs.Cells.{relative}
+use Rattle.machine.specs.declared.Ceiling.{Ceiling}
+use Rattle.machine.specs.declared.Ceiling.the-variants.{Unsaid, Steps}
+use Rattle.machine.specs.State.{Machine, Outcome}
+
+-- 01's number and its value, the writes and the steps that it carries, and the record afterwards
+pub record Given : Type 0 where
+  pub number : ℕ
+  pub value : ℕ
+  pub writes : ℕ
+  pub steps : ℕ
+  pub machine : Machine
+
+abbrev pub given : ℕ → ℕ → ℕ → ℕ → Machine → Given
+given number value writes steps m = record { number = number; value = value; writes = writes; steps = steps; machine = m }
+
+-- the same of an outcome
+abbrev pub givenBy : Outcome → Given
+givenBy o = record { number = o .number; value = o .value; writes = o .writes; steps = o .steps; machine = o .machine }
+
+-- a ceiling, where one is said
+abbrev pub ceilingIf : Bool → ℕ → Ceiling
+ceilingIf true n = Steps n
+ceilingIf false n = Unsaid
+
+-- a cell of these fields
+abbrev pub cellOf : ℕ → ℕ → ℕ → ℕ → ℕ → ℕ → Cell
+cellOf opcode modifier a-mode b-mode a b =
+    record { opcode = opcode; modifier = modifier; «a_mode» = a-mode; «b_mode» = b-mode; a = relative a; b = relative b }
