@@ -46,10 +46,12 @@ pub fn load(
 {
     let s = sim::warrior::load(core, queue, h, name, body, origin, place);
     let answer = s.answer;
+    let number = number(answer);
+    let value = value(answer);
     let header = s.header;
     Outcome {
-        number: number(answer),
-        value: value(answer),
+        number,
+        value,
         writes: s.writes as u64,
         steps: 0,
         header,
@@ -63,10 +65,12 @@ pub fn step(core: &mut [u64], queue: &mut [u64], h: Header) -> Outcome
 {
     let s = cycle::step(core, queue, h);
     let answer = s.answer;
+    let number = number(answer);
+    let value = value(answer);
     let header = s.header;
     Outcome {
-        number: number(answer),
-        value: value(answer),
+        number,
+        value,
         writes: s.writes,
         steps: s.steps,
         header,
@@ -80,10 +84,12 @@ pub fn run(core: &mut [u64], queue: &mut [u64], h: Header, said: bool, ceiling: 
 {
     let s = cycle::run(core, queue, h, ceiling_if(said, ceiling));
     let answer = s.answer;
+    let number = number(answer);
+    let value = value(answer);
     let header = s.header;
     Outcome {
-        number: number(answer),
-        value: value(answer),
+        number,
+        value,
         writes: s.writes,
         steps: s.steps,
         header,

@@ -1,16 +1,20 @@
 -- `cycle::run` meets its contract.
 -- Assumes nothing.
 use borrow.Author.Needs.{needs}
+use mathlib.Core.Path.{_∙_}
+use Rattle.process.specs.Parts.{machineOf}
+use Rattle.cycle.proofs.Calls.{together, run-by}
 use Rattle.cycle.proofs.run.Statement.{statement}
 use Rattle.cycle.proofs.run.Tie as tie
-use mathlib.Core.Path.{_∙_}
-use Rattle.laws.proofs.Tests.{refuted, upheld}
-use Rattle.process.specs.Parts.{machineOf}
-use Rattle.process.proofs.Headers.{by-parts}
-use Rattle.cycle.proofs.Calls.{unsound-run, run-by, ready}
 
-sound-header-requires : tie.Need-sound-header-requires
-sound-header-requires c κs = search needs
+ceiling-of-requires : tie.Need-ceiling-of-requires
+ceiling-of-requires c κs = search needs
+
+run-parts-requires : tie.Need-run-parts-requires
+run-parts-requires c κs = search needs
+
+put-together-requires : tie.Need-put-together-requires
+put-together-requires c κs = search needs
 
 same-length : tie.Need-same-length
 same-length c = search needs
@@ -19,37 +23,17 @@ same-length-2 : tie.Need-same-length-2
 same-length-2 c = search needs
 
 returns : tie.Need-returns
-returns c = unsound-run (c .before .before .before .before .before .before .before .before .before .before .args .ceiling) (machineOf (c .before .before .before .before .before .before .before .before .before .before .args .core .now) (c .before .before .before .before .before .before .before .before .before .before .args .queue .now) (c .before .before .before .before .before .before .before .before .before .before .args .t3)) (refuted (c .before .sound-header .ensures ∙ by-parts (c .before .before .before .before .before .before .before .before .before .before .args .core .now) (c .before .before .before .before .before .before .before .before .before .before .args .queue .now) (c .before .before .before .before .before .before .before .before .before .before .args .t3)) (c .if1 .taken))
-
-sized-requires : tie.Need-sized-requires
-sized-requires c κs = search needs
-
-ceiling-of-requires : tie.Need-ceiling-of-requires
-ceiling-of-requires c κs = search needs
-
-run-loop-requires : tie.Need-run-loop-requires
-run-loop-requires c κs = ready (machineOf (c .before .before .before .before .before .before .before .before .before .before .before .before .before .before .before .before .before .before .before .before .before .before .before .before .before .before .args .core .now) (c .before .before .before .before .before .before .before .before .before .before .before .before .before .before .before .before .before .before .before .before .before .before .before .before .before .before .args .queue .now) (c .before .before .before .before .before .before .before .before .before .before .before .before .before .before .before .before .before .before .before .before .before .before .before .before .before .before .args .t3)) (upheld (c .before .before .before .before .before .before .before .before .before .before .before .before .before .before .before .before .before .sound-header .ensures ∙ by-parts (c .before .before .before .before .before .before .before .before .before .before .before .before .before .before .before .before .before .before .before .before .before .before .before .before .before .before .args .core .now) (c .before .before .before .before .before .before .before .before .before .before .before .before .before .before .before .before .before .before .before .before .before .before .before .before .before .before .args .queue .now) (c .before .before .before .before .before .before .before .before .before .before .before .before .before .before .before .before .before .before .before .before .before .before .before .before .before .before .args .t3)) (c .before .before .before .before .before .before .before .before .before .before .before .before .before .before .before .before .if1 .left)) (c .before .before .before .before .before .before .before .before .before .before .sized .ensures)
-
-same-length-3 : tie.Need-same-length-3
-same-length-3 c = search needs
-
-same-length-4 : tie.Need-same-length-4
-same-length-4 c = search needs
-
-returns-2 : tie.Need-returns-2
-returns-2 c = c .before .before .before .before .before .before .run-loop .ensures ∙ run-by (c .before .before .before .before .before .before .before .before .before .before .before .before .before .before .before .before .before .before .before .before .before .before .before .before .before .before .before .before .before .before .before .before .before .args .ceiling) (machineOf (c .before .before .before .before .before .before .before .before .before .before .before .before .before .before .before .before .before .before .before .before .before .before .before .before .before .before .before .before .before .before .before .before .before .args .core .now) (c .before .before .before .before .before .before .before .before .before .before .before .before .before .before .before .before .before .before .before .before .before .before .before .before .before .before .before .before .before .before .before .before .before .args .queue .now) (c .before .before .before .before .before .before .before .before .before .before .before .before .before .before .before .before .before .before .before .before .before .before .before .before .before .before .before .before .before .before .before .before .before .args .t3)) (c .before .before .before .before .before .before .before .before .before .before .before .before .before .before .ceiling-of .ensures)
+returns c =
+    let a = c .before .before .before .before .before .before .before .before .before .before .before .before .before .before .before .before .before .before .args in
+    together _ _ (c .put-together .ensures) (c .before .before .before .before .before .run-parts .ensures) ∙ run-by (a .ceiling) (machineOf (a .core .now) (a .queue .now) (a .t3)) (c .before .before .before .before .before .before .before .before .before .before .before .before .before .ceiling-of .ensures)
 
 pub run-spec : {M : Type 1} → statement M
 run-spec =
     tie.close
     (tie.spec
-    sound-header-requires
+    ceiling-of-requires
+    run-parts-requires
+    put-together-requires
     same-length
     same-length-2
-    returns
-    sized-requires
-    ceiling-of-requires
-    run-loop-requires
-    same-length-3
-    same-length-4
-    returns-2)
+    returns)

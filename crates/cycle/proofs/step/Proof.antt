@@ -1,21 +1,25 @@
 -- `cycle::step` meets its contract.
 -- Assumes nothing.
 use borrow.Author.Needs.{needs}
-use Rattle.cycle.proofs.step.Statement.{statement}
-use Rattle.cycle.proofs.step.Tie as tie
 use mathlib.Core.Path.{ap, _∙_}
 use Rattle.machine.proofs.Run.{run-one}
 use Rattle.process.specs.Parts.{machineOf}
 use Rattle.cycle.specs.Given.{givenBy}
+use Rattle.cycle.proofs.Calls.{together}
+use Rattle.cycle.proofs.step.Statement.{statement}
+use Rattle.cycle.proofs.step.Tie as tie
 
-cast-ceiling : tie.Need-cast-ceiling
-cast-ceiling c = search needs
+cast-limit : tie.Need-cast-limit
+cast-limit c = search needs
 
-add-ceiling : tie.Need-add-ceiling
-add-ceiling c = search needs
+add-limit : tie.Need-add-limit
+add-limit c = search needs
 
-run-requires : tie.Need-run-requires
-run-requires c κs = search needs
+run-parts-requires : tie.Need-run-parts-requires
+run-parts-requires c κs = search needs
+
+put-together-requires : tie.Need-put-together-requires
+put-together-requires c κs = search needs
 
 same-length : tie.Need-same-length
 same-length c = search needs
@@ -24,8 +28,18 @@ same-length-2 : tie.Need-same-length-2
 same-length-2 c = search needs
 
 returns : tie.Need-returns
-returns c = c .before .before .before .before .run .ensures ∙ ap givenBy (run-one (machineOf (c .before .before .before .before .before .before .before .before .before .before .args .core .now) (c .before .before .before .before .before .before .before .before .before .before .args .queue .now) (c .before .before .before .before .before .before .before .before .before .before .args .h)))
+returns c =
+    let a = c .before .before .before .before .before .before .before .before .before .before .before .before .before .before .before .before .before .args in
+    together _ _ (c .put-together .ensures) (c .before .before .before .before .before .run-parts .ensures) ∙ ap givenBy (run-one (machineOf (a .core .now) (a .queue .now) (a .t3)))
 
 pub step-spec : {M : Type 1} → statement M
 step-spec =
-    tie.close (tie.spec cast-ceiling add-ceiling run-requires same-length same-length-2 returns)
+    tie.close
+    (tie.spec
+    cast-limit
+    add-limit
+    run-parts-requires
+    put-together-requires
+    same-length
+    same-length-2
+    returns)

@@ -24,7 +24,7 @@ same-length-2 c = search needs
 returns : tie.Need-returns
 returns c =
     let a = c .before .before .before .before .before .before .before .before .before .before .before .before .before .before .args in
-    load-in-numbers (machineOf (a .core .now) (a .queue .now) (a .h)) (a .name .now) (a .body .now) (a .origin) (a .place) (c .before .before .before .before .before .before .before .load .result .answer) (c .before .number .ensures) (c .value .ensures) (c .before .before .before .before .before .before .before .load .ensures)
+    load-in-numbers (machineOf (a .core .now) (a .queue .now) (a .h)) (a .name .now) (a .body .now) (a .origin) (a .place) (c .before .before .before .before .before .before .before .load .result .answer) (c .before .before .number .ensures) (c .before .value .ensures) (c .before .before .before .before .before .before .before .load .ensures)
 
 pub load-spec : {M : Type 1} → statement M
 load-spec =

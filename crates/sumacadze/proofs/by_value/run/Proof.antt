@@ -31,7 +31,7 @@ same-length-2 c = search needs
 returns : tie.Need-returns
 returns c =
     let a = c .before .before .before .before .before .before .before .before .before .before .before .before .before .args in
-    played-in-numbers (c .before .before .before .before .before .before .before .run .result .answer) (c .before .number .ensures) (c .value .ensures) (c .before .before .before .before .before .before .before .run .ensures)
+    played-in-numbers (c .before .before .before .before .before .before .before .run .result .answer) (c .before .before .number .ensures) (c .before .value .ensures) (c .before .before .before .before .before .before .before .run .ensures)
     ∙ ap (λ (k : Ceiling). givenBy (running.run k (machineOf (a .core .now) (a .queue .now) (a .h)))) (c .before .before .before .before .before .before .before .before .ceiling-if .ensures)
 
 pub run-spec : {M : Type 1} → statement M

@@ -21,7 +21,7 @@ same-length-2 : tie.Need-same-length-2
 same-length-2 c = search needs
 
 returns : tie.Need-returns
-returns c = played-in-numbers (c .before .before .before .before .before .before .before .step .result .answer) (c .before .number .ensures) (c .value .ensures) (c .before .before .before .before .before .before .before .step .ensures)
+returns c = played-in-numbers (c .before .before .before .before .before .before .before .step .result .answer) (c .before .before .number .ensures) (c .before .value .ensures) (c .before .before .before .before .before .before .before .step .ensures)
 
 pub step-spec : {M : Type 1} → statement M
 step-spec =
