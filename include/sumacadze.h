@@ -1,0 +1,124 @@
+/* The machine of document 01 for C and C++ on x86-64: what the static library of crates/sumacadze exports.
+ *
+ * `rt staticlib sumacadze` proves it and writes target/staticlib/libsumacadze.a, the one file to link.
+ * Each call's promise stands at its function in crates/sumacadze/src; `number` is always document 01's.
+ *
+ * The caller owes what C does not check:
+ * - no pointer is null, not even where its length is 0;
+ * - each is aligned for its type, and that many elements can be read there, and written where it is not const;
+ * - a memory or header that a call may write overlaps nothing else that the call is given;
+ * - nothing else uses them while the call runs.
+ * What the bytes say is not the caller's duty: memories, headers, names, bodies and files may hold anything. A refusal
+ * changes nothing.
+ */
+#ifndef SUMACADZE_H
+#define SUMACADZE_H
+
+#include <stdbool.h>
+#include <stddef.h>
+#include <stdint.h>
+
+#ifdef __cplusplus
+extern "C" {
+#endif
+
+/* What a call gives back, and the value given with it: an index, a place or a position, else 0. */
+enum {
+    SUMACADZE_DONE = 0,
+    SUMACADZE_INVALID_CORE_SIZE = 1,
+    SUMACADZE_INVALID_MEMORY = 2,
+    SUMACADZE_WARRIOR_TOO_LONG = 3,
+    SUMACADZE_INVALID_CODE = 4, /* the lowest index of a faulty instruction */
+    SUMACADZE_INVALID_NAME_OR_PLACE = 5,
+    SUMACADZE_NO_ROOM = 6,
+    SUMACADZE_NO_REMAINING_PROCESSES = 7,
+    SUMACADZE_NUMBERS_EXHAUSTED = 8,
+    SUMACADZE_UNSOUND_RECORD = 9,
+    SUMACADZE_PRIVATE_MEMORY = 10,
+    SUMACADZE_EXECUTE_DAT = 11, /* the place of the DAT */
+    SUMACADZE_DIVIDE_BY_ZERO = 12,
+    SUMACADZE_MALFORMED = 13 /* the position of the fault in the file */
+};
+
+enum { SUMACADZE_NAMES = 16, SUMACADZE_NAME_BYTES = 32, SUMACADZE_NO_ORIGIN = 65535 };
+
+/* The record that the machine keeps beside its two memories. A name has 32 bytes of names, from 32 times its index on. */
+typedef struct {
+    uint32_t size, head, length, steps, held;
+    uint8_t names[SUMACADZE_NAMES * SUMACADZE_NAME_BYTES];
+    uint8_t lengths[SUMACADZE_NAMES];
+    uint32_t counts[SUMACADZE_NAMES];
+    uint32_t threads[SUMACADZE_NAMES];
+} sumacadze_header_t;
+
+typedef struct {
+    uint8_t number;
+    size_t value;
+    uint64_t writes, steps;
+} sumacadze_report_t;
+
+typedef struct {
+    uint8_t number;
+    sumacadze_header_t header;
+} sumacadze_fresh_t;
+
+typedef struct {
+    uint8_t number, opcode, modifier, a_mode, b_mode;
+    uint32_t a, b;
+} sumacadze_reading_t;
+
+typedef struct {
+    uint8_t number;
+    size_t position, warriors;
+    uint32_t size;
+} sumacadze_contents_t;
+
+typedef struct {
+    uint8_t number;
+    size_t position, name_start, name_length, body_start, body_length;
+    uint16_t origin;
+    uint32_t place;
+} sumacadze_line_t;
+
+/* A fresh machine of that size: fresh cells in the core memory, zeros in the queue memory, and its header. */
+sumacadze_fresh_t sumacadze_fresh(uint32_t size, uint64_t *core, size_t core_length, uint64_t *queue, size_t queue_length);
+
+/* Loads a warrior: its body at a place, a process at the origin (SUMACADZE_NO_ORIGIN is 0). An empty name is Warrior0. */
+sumacadze_report_t sumacadze_load(uint64_t *core, size_t core_length, uint64_t *queue, size_t queue_length,
+                                  sumacadze_header_t *header, const uint8_t *name, size_t name_length,
+                                  const uint8_t *body, size_t body_length, uint16_t origin, uint32_t place);
+
+/* Executes one instruction of the process at the front. */
+sumacadze_report_t sumacadze_step(uint64_t *core, size_t core_length, uint64_t *queue, size_t queue_length,
+                                  sumacadze_header_t *header);
+
+/* Steps while steps taken are below the ceiling, if one is said, else below 10,000, up to the first number not 0. */
+sumacadze_report_t sumacadze_run(uint64_t *core, size_t core_length, uint64_t *queue, size_t queue_length,
+                                 sumacadze_header_t *header, bool said, uint64_t ceiling);
+
+/* The cell at any number, reduced; all fields are 0 where it is refused. */
+sumacadze_reading_t sumacadze_get(const uint64_t *core, size_t core_length, const uint64_t *queue, size_t queue_length,
+                                  sumacadze_header_t header, int32_t number);
+
+/* How many warriors a match file has, and its core size. */
+sumacadze_contents_t sumacadze_read(const uint8_t *file, size_t file_length);
+
+/* Which bytes of a match file are a warrior's name and body, and its origin and place; warriors count from 0. */
+sumacadze_line_t sumacadze_read_line(const uint8_t *file, size_t file_length, size_t warrior);
+
+#ifdef __cplusplus
+}
+#define SUMACADZE_ASSERT(test) static_assert(test, #test)
+#else
+#define SUMACADZE_ASSERT(test) _Static_assert(test, #test)
+#endif
+
+/* The layout that the library has. */
+SUMACADZE_ASSERT(sizeof(sumacadze_header_t) == 676 && offsetof(sumacadze_header_t, names) == 20);
+SUMACADZE_ASSERT(offsetof(sumacadze_header_t, lengths) == 532 && offsetof(sumacadze_header_t, counts) == 548);
+SUMACADZE_ASSERT(offsetof(sumacadze_header_t, threads) == 612 && sizeof(sumacadze_fresh_t) == 680);
+SUMACADZE_ASSERT(sizeof(sumacadze_report_t) == 32 && sizeof(sumacadze_reading_t) == 16);
+SUMACADZE_ASSERT(sizeof(sumacadze_contents_t) == 32 && sizeof(sumacadze_line_t) == 56);
+SUMACADZE_ASSERT(sizeof(bool) == 1 && sizeof(size_t) == 8);
+
+#endif

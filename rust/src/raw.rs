@@ -1,0 +1,105 @@
+//! What the static library exports, as include/sumacadze.h declares it.
+use crate::Header;
+use std::mem::{offset_of, size_of};
+
+#[repr(C)]
+pub struct Report {
+    pub number: u8,
+    pub value: usize,
+    pub writes: u64,
+    pub steps: u64,
+}
+
+#[repr(C)]
+pub struct Fresh {
+    pub number: u8,
+    pub header: Header,
+}
+
+#[repr(C)]
+pub struct Reading {
+    pub number: u8,
+    pub opcode: u8,
+    pub modifier: u8,
+    pub a_mode: u8,
+    pub b_mode: u8,
+    pub a: u32,
+    pub b: u32,
+}
+
+#[repr(C)]
+pub struct Contents {
+    pub number: u8,
+    pub position: usize,
+    pub warriors: usize,
+    pub size: u32,
+}
+
+#[repr(C)]
+pub struct Line {
+    pub number: u8,
+    pub position: usize,
+    pub name_start: usize,
+    pub name_length: usize,
+    pub body_start: usize,
+    pub body_length: usize,
+    pub origin: u16,
+    pub place: u32,
+}
+
+// The layout that the library has.
+const _: () = assert!(size_of::<Header>() == 676 && offset_of!(Header, names) == 20);
+const _: () = assert!(offset_of!(Header, lengths) == 532 && offset_of!(Header, counts) == 548);
+const _: () = assert!(offset_of!(Header, threads) == 612 && size_of::<Fresh>() == 680);
+const _: () = assert!(size_of::<Report>() == 32 && size_of::<Reading>() == 16);
+const _: () = assert!(size_of::<Contents>() == 32 && size_of::<Line>() == 56);
+
+extern "C" {
+    pub fn sumacadze_fresh(
+        size: u32,
+        core: *mut u64,
+        core_length: usize,
+        queue: *mut u64,
+        queue_length: usize,
+    ) -> Fresh;
+    #[allow(clippy::too_many_arguments)]
+    pub fn sumacadze_load(
+        core: *mut u64,
+        core_length: usize,
+        queue: *mut u64,
+        queue_length: usize,
+        header: *mut Header,
+        name: *const u8,
+        name_length: usize,
+        body: *const u8,
+        body_length: usize,
+        origin: u16,
+        place: u32,
+    ) -> Report;
+    pub fn sumacadze_step(
+        core: *mut u64,
+        core_length: usize,
+        queue: *mut u64,
+        queue_length: usize,
+        header: *mut Header,
+    ) -> Report;
+    pub fn sumacadze_run(
+        core: *mut u64,
+        core_length: usize,
+        queue: *mut u64,
+        queue_length: usize,
+        header: *mut Header,
+        said: bool,
+        ceiling: u64,
+    ) -> Report;
+    pub fn sumacadze_get(
+        core: *const u64,
+        core_length: usize,
+        queue: *const u64,
+        queue_length: usize,
+        header: Header,
+        number: i32,
+    ) -> Reading;
+    pub fn sumacadze_read(file: *const u8, file_length: usize) -> Contents;
+    pub fn sumacadze_read_line(file: *const u8, file_length: usize, warrior: usize) -> Line;
+}
