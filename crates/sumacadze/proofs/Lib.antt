@@ -1,3 +1,3 @@
 pub mod Numbers
 pub mod Thin
-pub mod Outcomes
+pub mod Answers

@@ -30,14 +30,14 @@ pub use denote.Builtin.{u8, u16, u32, u64, bool}
 pub use denote.Ref.{RefT, MutRef, ptr-vals, mut-tells}
 pub use denote.Slice.{MutSlice, ShrSlice, finally, slice-vals, mut-slice-tells, shr-slice-tells}
 pub use denote.Signature.{plain, shrSliceOf, typesAt}
-pub use denote.Steps.{only, owned, peeks, nothing}
+pub use denote.Steps.{only, owned, peeks, heard, nothing}
 pub use denote.Triple.Entry.{Args, Vals, onEntry}
 pub use denote.Triple.Spec.{Meets, tripleOf}
 pub use denote.Triple.Statement.{Contract, Triple}
 pub use denote.Triple.Call.{calls-at}
 pub use denote.Triple.Clauses.{lasts, atExit, Lasts}
 pub use denote.Triple.Table.{entered, cited}
-pub use denote.Triple.Walked.{Stays, stay-ref, stay-dropped, gave-slice, walkOf, goes-ref, goes-dropped, goes-gave-slice, ends-at, walked, walk-meets}
+pub use denote.Triple.Walked.{says, Stays, stay-ref, stay-dropped, gave-slice, walkOf, goes-ref, goes-dropped, goes-gave-slice, ends-at, walked, walk-meets}
 pub use denote.Exit.{yes}
 use mathlib.Core.Path.{ap}
 use denote.Steps.{opens, closes}
@@ -62,6 +62,10 @@ hval = LL.val T.the-type T′.the-laws
 -- a declared struct's machine value is the one that its type tells
 pub struct-is : (D : Declared) (L : LL.Laws D) (d : D .D) (v : Val) → Is (row D) d (v ∷ []) → v ≡ LL.val D L d
 struct-is D L d v is = ap only (LL.tells D L d (v ∷ []) is)
+
+-- which its fields' facts are about
+pub struct-again : (D : Declared) (L : LL.Laws D) (d : D .D) (v : Val) → Is (row D) d (v ∷ []) → Is (row D) d (LL.vals D L d)
+struct-again D L d v is = LL.owes D L d (LL.owed D L d (v ∷ []) is)
 
 -- and has its MIR type
 pub struct-typed : {M : Type 1} (𝓤 : URA M) (H : Heap 𝓤) (A : Atoms 𝓤) (W : Given 𝓤 H A) (D : Declared) (L : LL.Laws D) (d : D .D) (v : Val) → Is (row D) d (v ∷ []) → Holds (hasTy (layout (shape D)) v) × WT v

@@ -7,6 +7,9 @@ use Rattle.load_file.specs.Cells.{relative}
 use Rattle.machine.specs.declared.Ceiling.{Ceiling}
 use Rattle.machine.specs.declared.Ceiling.the-variants.{Unsaid, Steps}
 use Rattle.machine.specs.State.{Machine, Outcome}
+use Rattle.answer.specs.declared.Answer.{Answer}
+use Rattle.answer.specs.Numbers.{told}
+use Rattle.sumacadze.specs.declared.Report.{Report}
 
 -- 01's number and its value, the writes and the steps that it carries, and the record afterwards
 pub record Given : Type 0 where
@@ -22,6 +25,13 @@ given number value writes steps m = record { number = number; value = value; wri
 -- the same of an outcome
 abbrev pub givenBy : Outcome → Given
 givenBy o = record { number = o .number; value = o .value; writes = o .writes; steps = o .steps; machine = o .machine }
+
+-- an answer, its writes and its steps, in numbers
+abbrev pub report : ℕ → ℕ → ℕ → ℕ → Report
+report number value writes steps = record { number = number; value = value; writes = writes; steps = steps }
+
+abbrev pub reported : Answer → ℕ → ℕ → Report
+reported answer writes steps = report (told answer .number) (told answer .value) writes steps
 
 -- a ceiling, where one is said
 abbrev pub ceilingIf : Bool → ℕ → Ceiling

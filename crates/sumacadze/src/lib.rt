@@ -6,6 +6,8 @@ ghost use Rattle.machine.specs.Run as running;
 ghost use Rattle.machine.specs.Step as one;
 ghost use Rattle.process.specs.Parts.{machineOf};
 ghost use Rattle.sumacadze.specs.Report.{given, givenBy, ceilingIf, cellOf};
+use by_value::in_numbers;
+use by_value::load_in_numbers;
 use machine::Header;
 
 mod by_value;
@@ -88,14 +90,9 @@ pub extern "C" fn sumacadze_load(
     ensures { λ r. ⌜ given (r .number) (r .value) (r .writes) (r .steps) (machineOf (now (core .exit)) (now (queue .exit)) (now (header .exit)))
         ≡ givenBy (loading.load (machineOf (now (core .entry)) (now (queue .entry)) (now (header .entry))) (now (name .entry)) (now (body .entry)) origin place) ⌝ }
 {
-    let s = by_value::load(core, queue, *header, name, body, origin, place);
+    let s = sim::warrior::load(core, queue, *header, name, body, origin, place);
     *header = s.header;
-    Report {
-        number: s.number,
-        value: s.value,
-        writes: s.writes,
-        steps: s.steps,
-    }
+    load_in_numbers(s.answer, s.writes)
 }
 
 // Executes one instruction of the process at the front.
@@ -104,14 +101,9 @@ pub extern "C" fn sumacadze_step(core: &mut [u64], queue: &mut [u64], header: &m
     ensures { λ r. ⌜ given (r .number) (r .value) (r .writes) (r .steps) (machineOf (now (core .exit)) (now (queue .exit)) (now (header .exit)))
         ≡ givenBy (one.step (machineOf (now (core .entry)) (now (queue .entry)) (now (header .entry)))) ⌝ }
 {
-    let s = by_value::step(core, queue, *header);
+    let s = cycle::step(core, queue, *header);
     *header = s.header;
-    Report {
-        number: s.number,
-        value: s.value,
-        writes: s.writes,
-        steps: s.steps,
-    }
+    in_numbers(s.answer, s.writes, s.steps)
 }
 
 // Steps while steps taken are below the ceiling, if one is said (else below 10,000), up to the first answer not 0.
@@ -128,10 +120,5 @@ pub extern "C" fn sumacadze_run(
 {
     let s = by_value::run(core, queue, *header, said, ceiling);
     *header = s.header;
-    Report {
-        number: s.number,
-        value: s.value,
-        writes: s.writes,
-        steps: s.steps,
-    }
+    in_numbers(s.answer, s.writes, s.steps)
 }

@@ -5,8 +5,7 @@ use mathlib.Core.Path.{ap, _∙_}
 use Rattle.machine.specs.declared.Ceiling.{Ceiling}
 use Rattle.machine.specs.Run as running
 use Rattle.process.specs.Parts.{machineOf}
-use Rattle.sumacadze.specs.Report.{givenBy}
-use Rattle.sumacadze.proofs.Numbers.{played-in-numbers}
+use Rattle.cycle.specs.Given.{givenBy}
 use Rattle.sumacadze.proofs.by_value.run.Statement.{statement}
 use Rattle.sumacadze.proofs.by_value.run.Tie as tie
 
@@ -16,12 +15,6 @@ ceiling-if-requires c κs = search needs
 run-requires : tie.Need-run-requires
 run-requires c κs = search needs
 
-number-requires : tie.Need-number-requires
-number-requires c κs = search needs
-
-value-requires : tie.Need-value-requires
-value-requires c κs = search needs
-
 same-length : tie.Need-same-length
 same-length c = search needs
 
@@ -30,18 +23,8 @@ same-length-2 c = search needs
 
 returns : tie.Need-returns
 returns c =
-    let a = c .before .before .before .before .before .before .before .before .before .before .before .before .before .args in
-    played-in-numbers (c .before .before .before .before .before .before .before .run .result .answer) (c .before .before .number .ensures) (c .before .value .ensures) (c .before .before .before .before .before .before .before .run .ensures)
-    ∙ ap (λ (k : Ceiling). givenBy (running.run k (machineOf (a .core .now) (a .queue .now) (a .h)))) (c .before .before .before .before .before .before .before .before .ceiling-if .ensures)
+    let a = c .before .before .before .before .before .before .before .before .before .before .args in
+    c .before .before .before .before .run .ensures ∙ ap (λ (k : Ceiling). givenBy (running.run k (machineOf (a .core .now) (a .queue .now) (a .h)))) (c .before .before .before .before .before .before .before .ceiling-if .ensures)
 
 pub run-spec : {M : Type 1} → statement M
-run-spec =
-    tie.close
-    (tie.spec
-    ceiling-if-requires
-    run-requires
-    number-requires
-    value-requires
-    same-length
-    same-length-2
-    returns)
+run-spec = tie.close (tie.spec ceiling-if-requires run-requires same-length same-length-2 returns)
