@@ -1,10 +1,11 @@
 // Times the proved calls and the plain C on the same battles, turn by turn, and compares what both leave.
 //   driver                      the table, in ns per step
 //   driver agree SEED COUNT     random battles on small cores: both leave the same
-//   driver count WHO BATTLE N   N steps of one battle by WHO (proved, plain, step), for instruction counts
+//   driver count WHO BATTLE N   N steps of one battle by WHO (run, plain, step, outer, plain-step), for instruction counts
 //   driver redcode BATTLE PART  a battle's warrior, or a part of it from a cell on, as text for pMARS
 //   driver oracle BATTLE N      a battle of N steps as a line for tools/oracle
 #include "plain.h"
+#include "sumacadze.h"
 #include <stdio.h>
 #include <stdlib.h>
 #include <string.h>
@@ -108,6 +109,47 @@ static double stepped(uint32_t size, uint32_t limit, uint32_t n, uint16_t second
     return now() - t;
 }
 
+// each step a call of the exported function on a header that C keeps
+static double outer(uint32_t size, uint32_t limit, uint32_t n, uint16_t second, uint64_t ceiling, uint64_t *report) {
+    sumacadze_fresh_t f = sumacadze_fresh(size, core[0], size, queue[0], limit);
+    sumacadze_header_t *h = &f.header;
+    sumacadze_load(core[0], size, queue[0], limit, h, (const uint8_t *)"first", 5, body, 12 * n, 0, 0);
+    if (second)
+        sumacadze_load(core[0], size, queue[0], limit, h, (const uint8_t *)"second", 6, body, 0, second, 0);
+    sumacadze_report_t r = {0};
+    uint64_t writes = 0, steps = 0;
+    double t = now();
+    for (uint64_t i = 0; i < ceiling && !r.number; i++) {
+        r = sumacadze_step(core[0], size, queue[0], limit, h);
+        writes += r.writes, steps += r.steps;
+    }
+    t = now() - t;
+    report[0] = r.number, report[1] = steps, report[2] = writes, report[3] = h->head, report[4] = h->length;
+    return t;
+}
+
+// each step a call of the plain C's step, which tests the header as the others do
+static double plain_steps(uint32_t size, uint32_t limit, uint32_t n, uint16_t second, uint64_t ceiling, uint64_t *report) {
+    header h = plain_fresh(size, core[1], queue[1], limit);
+    for (uint32_t i = 0; i < n; i++)
+        core[1][i] = packed(body + 12 * i, size);
+    plain_start(queue[1], limit, &h, "first", 0);
+    if (second)
+        plain_start(queue[1], limit, &h, "second", second % size);
+    outcome r = {0};
+    uint64_t writes = 0, steps = 0;
+    double t = now();
+    for (uint64_t i = 0; i < ceiling && !r.answer; i++) {
+        r = plain_step(core[1], size, queue[1], limit, &h);
+        writes += r.writes, steps += r.steps;
+    }
+    t = now() - t;
+    report[0] = r.answer, report[1] = steps, report[2] = writes, report[3] = h.head, report[4] = h.length;
+    return t;
+}
+
+typedef double player(uint32_t, uint32_t, uint32_t, uint16_t, uint64_t, uint64_t *);
+
 static int same(uint32_t size, uint32_t limit, const uint64_t *x, const uint64_t *y) {
     return !memcmp(core[0], core[1], size * 8) && !memcmp(queue[0], queue[1], limit * 8) && !memcmp(x, y, 40);
 }
@@ -126,6 +168,12 @@ static int agree(int seed, int count) {
         steps += x[1];
         if (!same(size, limit, x, y)) {
             printf("battle %d differs: size %u\n", i, size);
+            return 1;
+        }
+        outer(size, limit, n, second, ceiling, x);
+        plain_steps(size, limit, n, second, ceiling, y);
+        if (!same(size, limit, x, y)) {
+            printf("battle %d differs step by step: size %u\n", i, size);
             return 1;
         }
     }
@@ -194,8 +242,11 @@ int main(int n, char **word) {
     if (n == 5 && !strcmp(word[1], "count")) {
         const battle *b = &BATTLES[atoi(word[3])];
         uint32_t length = bodied(b);
-        double (*by)(uint32_t, uint32_t, uint32_t, uint16_t, uint64_t, uint64_t *) =
-            word[2][0] == 's' ? stepped : word[2][1] == 'r' ? proved : plainly;
+        player *by = !strcmp(word[2], "run")     ? proved
+                     : !strcmp(word[2], "plain") ? plainly
+                     : !strcmp(word[2], "step")  ? stepped
+                     : !strcmp(word[2], "outer") ? outer
+                                                 : plain_steps;
         by(M, LIMIT, length, b->second, atoll(word[4]), x);
         return 0;
     }
@@ -203,21 +254,25 @@ int main(int n, char **word) {
         return redcode(&BATTLES[atoi(word[2])], atoi(word[3])), 0;
     if (n == 4 && !strcmp(word[1], "oracle"))
         return oracle(&BATTLES[atoi(word[2])], word[3]), 0;
-    printf("%-10s %8s %8s %8s %8s\n", "battle", "run", "step", "plain C", "run/C");
+    player *players[] = {proved, plainly, stepped, outer, plain_steps};
+    printf("%-10s %8s %8s %8s %8s %8s %8s %8s\n", "battle", "run", "plain C", "run/C", "step", "outer", "plain C", "outer/C");
     for (int i = 0; i < COUNT; i++) {
         uint64_t steps = 20000000;
         uint32_t length = bodied(&BATTLES[i]);
-        double best[3] = {1e18, 1e18, 1e18};
-        for (int turn = 0; turn < 7; turn++) {
-            best[1] = least(best[1], stepped(M, LIMIT, length, BATTLES[i].second, steps / 10, x) * 10);
-            best[0] = least(best[0], proved(M, LIMIT, length, BATTLES[i].second, steps, x));
-            best[2] = least(best[2], plainly(M, LIMIT, length, BATTLES[i].second, steps, y));
-        }
+        double best[5] = {1e18, 1e18, 1e18, 1e18, 1e18};
+        for (int turn = 0; turn < 7; turn++)
+            for (int k = 0; k < 5; k++) {
+                uint64_t some = k < 2 ? steps : steps / 10;
+                best[k] = least(best[k], players[k](M, LIMIT, length, BATTLES[i].second, some, k % 2 ? y : x) / some);
+            }
+        proved(M, LIMIT, length, BATTLES[i].second, steps, x);
+        plainly(M, LIMIT, length, BATTLES[i].second, steps, y);
         if (x[1] != steps || !same(M, LIMIT, x, y)) {
             printf("%s: the two differ, or it ended: %llu steps\n", BATTLES[i].name, (unsigned long long)x[1]);
             return 1;
         }
-        printf("%-10s %8.1f %8.1f %8.1f %8.2f\n", BATTLES[i].name, best[0] / steps, best[1] / steps, best[2] / steps, best[0] / best[2]);
+        printf("%-10s %8.1f %8.1f %8.2f %8.1f %8.1f %8.1f %8.2f\n", BATTLES[i].name, best[0], best[1], best[0] / best[1], best[2],
+               best[3], best[4], best[3] / best[4]);
     }
     printf("the test of a header with one name: %.0f ns\n", sound_test());
     printf("load, for an instruction: %.1f ns\n", load_time());

@@ -51,11 +51,12 @@ for i, name in enumerate(BATTLES):
     print(f"{name:10}", *(f"{x:8.1f}" for x in row))
 for i, name in enumerate(BATTLES):
     counts = []
-    for who in ["proved", "plain"]:
+    for who in ["run", "plain", "step", "outer", "plain-step"]:
         total = []
         for n in [20_000, 120_000]:
             command = ["valgrind", "--tool=callgrind", f"--callgrind-out-file={work}/callgrind.out", f"{work}/driver", "count", who, str(i), str(n)]
             said = subprocess.run(command, check=True, capture_output=True, text=True).stderr
             total.append(int(said.split("Collected :")[1].split()[0]))
         counts.append((total[1] - total[0]) / 100_000)
-    print(f"{name:10} instructions per step: {counts[0]:.1f}, plain C {counts[1]:.1f}, ratio {counts[0] / counts[1]:.2f}")
+    print(f"{name:10} instructions per step: run {counts[0]:.1f}, plain C {counts[1]:.1f}, ratio {counts[0] / counts[1]:.2f};", end=" ")
+    print(f"step {counts[2]:.1f}, outer {counts[3]:.1f}, plain C {counts[4]:.1f}, ratio {counts[3] / counts[4]:.2f}")

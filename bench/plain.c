@@ -174,6 +174,31 @@ static outcome step(uint64_t *core, uint64_t *queue, uint32_t limit, header *h) 
     return r;
 }
 
+// the names are valid, not empty and unlike the others, and their counts sum to the length
+static int sound_names(const header *h) {
+    uint64_t sum = 0;
+    for (uint32_t i = 0; i < h->held; i++) {
+        const uint8_t *name = h->names + 32 * i;
+        if (h->lengths[i] < 1 || h->lengths[i] > 32)
+            return 0;
+        for (uint32_t k = 0; k < h->lengths[i]; k++)
+            if (name[k] < 33 || name[k] > 126)
+                return 0;
+        for (uint32_t k = 0; k < i; k++)
+            if (h->lengths[k] == h->lengths[i] && !memcmp(h->names + 32 * k, name, h->lengths[i]))
+                return 0;
+        sum += h->counts[i];
+    }
+    return sum == h->length;
+}
+
+outcome plain_step(uint64_t *core, uint32_t m, uint64_t *queue, uint32_t limit, header *h) {
+    if (h->size < 1 || h->size > 46341 || h->size != m || limit < 1 || limit > 65535 || h->length > limit ||
+        h->head >= limit || h->held > 16 || !sound_names(h))
+        return (outcome){9, 0, 0, 0};
+    return step(core, queue, limit, h);
+}
+
 outcome plain_run(uint64_t *core, uint64_t *queue, uint32_t limit, header *h, uint64_t ceiling) {
     outcome all = {0, 0, 0, 0};
     while (h->steps < ceiling) {

@@ -15,4 +15,5 @@ typedef struct {
 
 header plain_fresh(uint32_t size, uint64_t *core, uint64_t *queue, uint32_t limit);
 void plain_start(uint64_t *queue, uint32_t limit, header *h, const char *name, uint32_t place);
+outcome plain_step(uint64_t *core, uint32_t m, uint64_t *queue, uint32_t limit, header *h);
 outcome plain_run(uint64_t *core, uint64_t *queue, uint32_t limit, header *h, uint64_t ceiling);

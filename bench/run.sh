@@ -17,7 +17,8 @@ cp "$here/exports.rt.txt" crates/bench/src/lib.rt
 cp "$here/bench_steps.antt.txt" crates/bench/proofs/bench_steps/Proof.antt
 echo "bench: laws answer load_file program machine process sim execute cycle" >> crates.txt
 rt staticlib bench
-gcc -O3 -Wall -o "$work/driver" "$here/driver.c" "$here/plain.c" target/staticlib/libbench.a
+rt staticlib sumacadze
+gcc -O3 -Wall -I"$here/../include" -o "$work/driver" "$here/driver.c" "$here/plain.c" target/staticlib/libbench.a target/staticlib/libsumacadze.a
 
 # pMARS without a display, its build for tournaments
 sh "$here/../tools/pmars/build.sh" "$work/pmars"
