@@ -12,6 +12,7 @@ use answer::number;
 use answer::value;
 use machine::Header;
 use process::names::name_at;
+use program::store::copy;
 
 // Puts a byte.
 fn put_byte(out: &mut [u8], at: usize, b: u8) -> usize
@@ -27,12 +28,8 @@ fn put_bytes(out: &mut [u8], at: usize, bytes: &[u8]) -> usize
     requires { ⌜ at + length (now bytes) ≤ length (now out) ⌝ }
     ensures { λ r. ⌜ Puts (now (out .entry)) (now (out .exit)) at r (now (bytes .entry)) ⌝ }
 {
-    let mut i: usize = 0;
-    while i < bytes.len() {
-        out[at + i] = bytes[i];
-        i = i + 1;
-    }
-    at + i
+    copy(out, at, bytes);
+    at + bytes.len()
 }
 
 // Puts a number in decimal digits.

@@ -11,6 +11,7 @@ ghost use Rattle.match_file.specs.Reading.{warriorsAt};
 ghost use Rattle.match_write.specs.Writing.{Earlier};
 use match_file::read_line;
 use program::len;
+use program::store::copy;
 
 // Stores the k bytes of a number, the lowest first.
 fn put(out: &mut [u8], at: usize, k: usize, n: u64)
@@ -23,18 +24,6 @@ fn put(out: &mut [u8], at: usize, k: usize, n: u64)
         let b = (v % 256) as u8;
         out[at + i] = b;
         v = v / 256;
-        i += 1;
-    }
-}
-
-// Stores the bytes of a slice.
-fn copy(out: &mut [u8], at: usize, bytes: &[u8])
-    requires { ⌜ at + length (now bytes) ≤ length (now out) ⌝ }
-    ensures { λ _. ⌜ now (out .exit) ≡ sets (now (out .entry)) at (now (bytes .entry)) ⌝ }
-{
-    let mut i: usize = 0;
-    while i < bytes.len() {
-        out[at + i] = bytes[i];
         i += 1;
     }
 }

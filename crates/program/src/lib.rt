@@ -16,6 +16,7 @@ use load_file::types::default_modifiers;
 
 pub mod bytes;
 pub mod metadata;
+pub mod store;
 
 // How many instructions a body has; a last one cut short counts.
 pub fn len(body: &[u8]) -> usize

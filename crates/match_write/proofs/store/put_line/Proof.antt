@@ -18,7 +18,7 @@ add-first : tie.Need-add-first
 add-first c = search needs
 
 copy-requires : tie.Need-copy-requires
-copy-requires c κs = simp length-set (omega arith)
+copy-requires c κs = search needs
 
 add-padding : tie.Need-add-padding
 add-padding c = search needs

@@ -63,17 +63,13 @@ part-bodies-end : tie.Need-part-bodies-end
 part-bodies-end c = search needs
 
 copy-requires : tie.Need-copy-requires
-copy-requires c κs =
-    let s = c .before .before .before .before .before .before .before .before .before .before .before .before .before .before .before .before .before .before .before in
-    omega (arith, c .before .before .before .out3 .given, simp length-set at (c .before .before .before .before .before .before .before .before .out2 .given), simp length-set at (c .before .before .before .before .before .before .before .before .before .before .before .before .out .given), rest-length (s .args .file .now) (s .args .start))
+copy-requires c κs = search needs
 
 add-end : tie.Need-add-end
 add-end c = search needs
 
 copy-requires-2 : tie.Need-copy-requires-2
-copy-requires-2 c κs =
-    let s = c .before .before .before .before .before .before .before .before .before .before .before .before .before .before .before .before .before .before .before .before .before .before .before in
-    omega (arith, c .before .before .out4 .given, c .before .before .before .before .before .before .before .out3 .given, simp length-set at (c .before .before .before .before .before .before .before .before .before .before .before .before .out2 .given), simp length-set at (c .before .before .before .before .before .before .before .before .before .before .before .before .before .before .before .before .out .given), rest-length (s .args .file .now) (s .args .start))
+copy-requires-2 c κs = search needs
 
 add-result : tie.Need-add-result
 add-result c = search needs
