@@ -18,6 +18,13 @@ pub struct Printed {
     pub length: usize,
 }
 
+// Memory for a file, and one byte more, which tells a file that is too long.
+pub fn file_memory() -> [u8; 32769]
+    ensures { λ r. ⌜ r ≡ replicate 32769 0 ⌝ }
+{
+    [0; 32769]
+}
+
 // Memory for 8,000 cells.
 fn core_memory() -> [u64; 8000]
     ensures { λ r. ⌜ length r ≡ 8000 ⌝ }

@@ -1,14 +1,6 @@
 // Plays one match file after another as `play` does: standard input has each file's length in three bytes, little-endian, and then the file.
-ghost use mathlib.Core.Path.{_≡_};
-ghost use lib.ListN.{length};
+use battle::file_memory;
 use battle::print;
-
-// Memory for a file, and one byte more, which tells a file that is too long.
-fn file_memory() -> [u8; 32769]
-    ensures { λ r. ⌜ 32769 ≡ length r ⌝ }
-{
-    [0; 32769]
-}
 
 // A byte as a wider number.
 fn wide(b: u8) -> usize {
