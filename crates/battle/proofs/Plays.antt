@@ -13,10 +13,10 @@ use Rattle.answer.specs.declared.Answer.the-variants.{Done, InvalidCoreSize, Ma
 use Rattle.answer.specs.Numbers.{Told, told}
 use Rattle.machine.specs.declared.Ceiling.the-variants.{Unsaid}
 use Rattle.machine.specs.declared.Header.{Header}
-use Rattle.machine.specs.State.{Machine, Outcome, Verdict, accepted, refusal, first, settle, toldBy}
-use Rattle.machine.specs.Load.{freshChecks, fresh, load}
+use Rattle.machine.specs.State.{Machine, Outcome, toldBy}
+use Rattle.machine.specs.Load.{fresh, load}
 use Rattle.machine.specs.Run.{run}
-use Rattle.machine.proofs.Load.{fresh-lengths}
+use Rattle.machine.proofs.Load.{fresh-lengths, fresh-tells}
 use Rattle.machine.proofs.SoundMachine.{SoundMachine, fresh-sound, load-keeps, run-keeps-sound}
 use Rattle.match_file.specs.declared.fault.Fault.{Fault}
 use Rattle.match_file.specs.declared.fault.Fault.the-variants.{Nowhere, At}
@@ -150,21 +150,13 @@ module _ (f : List ℕ) (size : ℕ) (core queue : List ℕ) (a : Answer) (w : �
       runs y = (is-ran ∙ sym (ap before-run (is-zero number′-is y)) ∙ goes-on, λ t. few)
 
 -- fresh looks at the lengths of what it is lent
-settled-told : (v : Verdict) (m m′ : Machine) (o o′ : Outcome) → toldBy o ≡ toldBy o′ → toldBy (settle v m o) ≡ toldBy (settle v m′ o′)
-settled-told accepted m m′ o o′ e = e
-settled-told (refusal n v) m m′ o o′ e = refl
-
 module _ (f : List ℕ) (size : ℕ) (core queue core′ queue′ : List ℕ) (a : length core′ ≡ length core) (b : length queue′ ≡ length queue) where
-  fresh-tells : toldBy (fresh size core′ queue′) ≡ toldBy (fresh size core queue)
-  unfolding fresh
-  fresh-tells = rw (a, b) (settled-told (first (freshChecks size core queue)) _ _ _ _ refl)
-
   abbrev after : Machine → Result
   after m = afterLoads (loads f 0 (warriorsIn f) m)
 
   fresh-same : afterFresh f (fresh size core′ queue′) ≡ afterFresh f (fresh size core queue)
   fresh-same =
-      ap (λ (t : Told). cond (eqb (t .number) 0) (after (fresh size core′ queue′ .machine)) (refused t)) fresh-tells
+      ap (λ (t : Told). cond (eqb (t .number) 0) (after (fresh size core′ queue′ .machine)) (refused t)) (fresh-tells size core queue core′ queue′ a b)
       ∙ go (eqb (fresh size core queue .number) 0) refl (toldBy (fresh size core queue))
     where
       go : (c : Bool) → eqb (fresh size core queue .number) 0 ≡ c → (t : Told)

@@ -17,7 +17,7 @@ use Rattle.program.specs.Metadata.{validName, called}
 use Rattle.program.proofs.Program.{cells-sound}
 use Rattle.program.proofs.Names.{called-valid}
 use Rattle.machine.specs.declared.Header.{Header}
-use Rattle.machine.specs.State.{Machine, Outcome, Verdict, accepted, refusal, first, settle}
+use Rattle.machine.specs.State.{Machine, Outcome, Verdict, accepted, refusal, first, settle, toldBy}
 use Rattle.machine.specs.Names.{slot, isNew, register, registered, numbered}
 use Rattle.machine.specs.Queue.{slots, entries, push, started}
 use Rattle.machine.specs.Soundness.{validSize, validQueue}
@@ -70,6 +70,16 @@ unfolding fresh
 fresh-lengths size core queue core′ queue′ a b ok =
     let e : first (freshChecks size core queue) ≡ accepted = fresh-accepted size core queue ok .0 in
     rw (a, b, e)
+
+-- and it tells the same of them, refused or not
+pub fresh-tells : (size : ℕ) (core queue core′ queue′ : List ℕ) → length core′ ≡ length core → length queue′ ≡ length queue
+    → toldBy (fresh size core′ queue′) ≡ toldBy (fresh size core queue)
+unfolding fresh
+fresh-tells size core queue core′ queue′ a b = rw (a, b) (settled (first (freshChecks size core queue)) _ _ _ _ refl)
+  where
+    settled : (v : Verdict) (m m′ : Machine) (o o′ : Outcome) → toldBy o ≡ toldBy o′ → toldBy (settle v m o) ≡ toldBy (settle v m′ o′)
+    settled accepted m m′ o o′ e = e
+    settled (refusal n v) m m′ o o′ e = refl
 
 -- the body in the core
 pub length-placed : (ws core : List ℕ) (p : ℕ) → length (placed core p ws) ≡ length core
