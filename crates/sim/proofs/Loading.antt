@@ -20,6 +20,7 @@ use Rattle.load_file.specs.Offset.{ahead}
 use Rattle.program.specs.Program.{instructions, lowestFault, cells}
 use Rattle.program.specs.Metadata.{validName, called}
 use Rattle.program.proofs.Program.{cells-le}
+use Rattle.program.proofs.Names.{valid-name}
 use Rattle.machine.specs.declared.Header.{Header}
 use Rattle.machine.specs.State.{Machine, Verdict, accepted, refusal, first, settle}
 use Rattle.machine.specs.Names.{nameAt, names, slot, isNew, register, registered, numbered}
@@ -72,7 +73,7 @@ module _ (m : Machine) (name body : List ℕ) (place i : ℕ) (a : Accepted m na
   index-le = let e : i ≡ slot (m .header) name = a .index in let l : slot (m .header) name ≤ m .header .held = slot-le (m .header) name in omega arith
 
   short : length name ≤ 32
-  short = leb-true (length name) 32 (both (leb (length name) 32) _ (a .valid) .0)
+  short = valid-name name (a .valid) .0
 
   -- the names after registering, from their parts
   registered-is : named (m .header) (cond (eqb i (m .header .held)) (registerIf parts name) parts) ≡ registered (m .header) name
