@@ -1,27 +1,23 @@
--- Laws of execution: the field pairs as two, and what the machine's effect is, by opcode, from what the code finds.
+-- Laws of execution: what the machine's effect is, by opcode, from what the code finds.
 -- Assumes nothing.
 use mathlib.Core.Path.{_≡_, refl, sym, ap, _∙_}
 use mathlib.Core.Bool.{Bool, true, false, cond, not, _&&_, _||_}
-use mathlib.Core.Logic.{_⊎_, inl, inr, ⊎-elim}
-use mathlib.Core.List.{List, [], _∷_}
+use mathlib.Core.Logic.{⊎-elim}
+use mathlib.Core.List.{List}
 use mathlib.Core.Option.{Option, none, some}
-use Prim.Native.Nat.{ℕ, zero, suc, _+_, _-_, _*_, _/_, _%_, _≤_, _<_, zero-le}
-use native.Mathlib.Nat.{add-zero, mod-lt, lt-of-le-of-lt, div-le-self, mod-le, mod-add-mod, eq-or-lt-of-le}
+use Prim.Native.Nat.{ℕ, _+_, _/_, _%_, _≤_, _<_}
+use native.Mathlib.Nat.{add-zero, mod-add-mod, eq-or-lt-of-le}
 use native.Mathlib.Omega.{arith}
 use lib.Dec.{eqb, ltb}
 use lib.ListN.{getD, set, List·getD-eq-default}
 use borrow.Author.Tests.{ne-eqb}
 use Rattle.laws.specs.Lists.{every}
 use Rattle.laws.proofs.Cases.{span}
-use Rattle.laws.proofs.Modulo.{mod-small}
 use Rattle.laws.proofs.Tests.{both}
 use Rattle.load_file.specs.declared.Cell.{Cell}
-use Rattle.load_file.specs.declared.offset.Relative.{Relative}
-use Rattle.load_file.specs.declared.types.Pairs.{Pairs}
 use Rattle.load_file.specs.Offset.{ahead}
-use Rattle.load_file.specs.Types.{Field, A, B, pairsOf}
-use Rattle.load_file.specs.Cells.{packed, unpacked, soundWord, number, withNumber, relative}
-use Rattle.load_file.proofs.Words.{InRange, word-range, with-range, unpack-pack}
+use Rattle.load_file.specs.Cells.{packed, unpacked, withNumber}
+use Rattle.load_file.proofs.Words.{word-range, unpack-pack}
 use Rattle.machine.specs.Execution as machine
 use Rattle.machine.specs.Execution.{Scene, Effect, ends, goes, divisor, mets, some?, computes, stored, put, isNone, effects, effectOf}
 use Rattle.machine.specs.Pointers.{less}
@@ -30,138 +26,16 @@ use Rattle.execute.specs.declared.Executed.{Executed}
 use Rattle.execute.specs.declared.Executed.the-variants.{Goes, Splits, Dat, DivideByZero}
 use Rattle.execute.specs.declared.modifier.Met.{Met}
 use Rattle.execute.specs.Instruction.{answered}
-use Rattle.execute.specs.Words.{fieldBy, copyOf, Reduced}
-use Rattle.execute.specs.Acts.{metOf, firstOf, lastOf, Below, valueBy, sceneOf, Answers, Does, Set}
-use Rattle.execute.proofs.Cells.{number-below, whole}
-
--- the numbers that the code reads are those that meet
-pub met-is : (k ra rb : ℕ) {p : Pairs} {a1 b1 a2 b2 : Relative} → p ≡ pairsOf k
-    → a1 .0 ≡ number (fieldBy (p .a1)) (unpacked ra) → b1 .0 ≡ number (fieldBy (p .b1)) (unpacked rb)
-    → a2 .0 ≡ number (fieldBy (p .a2)) (unpacked ra) → b2 .0 ≡ number (fieldBy (p .b2)) (unpacked rb)
-    → record { a1 = a1; b1 = b1; a2 = a2; b2 = b2; t1 = p .b1; t2 = p .b2 } ≡ metOf k ra rb
-unfolding metOf
-met-is k ra rb {p} e f g h l =
-    (λ i. record { a1 = relative (f i); b1 = relative (g i); a2 = relative (h i); b2 = relative (l i); t1 = p .b1; t2 = p .b2 })
-    ∙ rw e
-
-and-twice : (b : Bool) → (b && true) ≡ (b && b)
-and-twice true = refl
-and-twice false = refl
-
-and-true : (b : Bool) → (b && true) ≡ b
-and-true true = refl
-and-true false = refl
-
-neither-not : (a b : Bool) → not (not a && not b) ≡ (a || b)
-neither-not true b = refl
-neither-not false true = refl
-neither-not false false = refl
-
-put-twice : (o : Option ℕ) (f : Field) (c : Cell) → put o f c ≡ put o f (put o f c)
-put-twice none f c = refl
-put-twice (some n) A c = refl
-put-twice (some n) B c = refl
-
--- a modifier has one pair, which the code has twice, or two
-abbrev Shape : Scene → Met → Type 0
-Shape s p = ((mets s ≡ (firstOf p ∷ [])) × (lastOf p ≡ firstOf p)) ⊎ (mets s ≡ (firstOf p ∷ lastOf p ∷ []))
-
-shape : (size k pc jump ra rb live : ℕ) → k ≤ 6 → Shape (sceneOf size k pc jump ra rb live) (metOf k ra rb)
-unfolding metOf
-shape size k pc jump ra rb live h =
-    span k 0 7 zero-le (omega arith) (
-      λ e. rw e (inl (refl, refl)),
-      (
-        λ e. rw e (inl (refl, refl)),
-        (
-          λ e. rw e (inl (refl, refl)),
-          (λ e. rw e (inl (refl, refl)), (λ e. rw e (inr refl), (λ e. rw e (inr refl), (λ e. rw e (inr refl), tt)))),
-        ),
-      ),
-    )
-
-module _ (s : Scene) (p : Met) (sh : Shape s p) where
-  every-two : (t : machine.Met → Bool) → every t (mets s) ≡ (t (firstOf p) && t (lastOf p))
-  every-two t =
-      ⊎-elim (λ x. rw (x .0, x .1) (and-twice (t (firstOf p)))) (λ x. rw x (ap (λ (b : Bool). t (firstOf p) && b) (and-true (t (lastOf p))))) sh
-
-  some-two : (t : machine.Met → Bool) → some? t s ≡ (t (firstOf p) || t (lastOf p))
-  some-two t = ap not (every-two (λ x. not (t x))) ∙ neither-not (t (firstOf p)) (t (lastOf p))
-
-  stored-two : (f : ℕ → ℕ → Option ℕ) (c : Cell)
-      → stored f (mets s) c ≡ put (f (p .a2 .0) (p .b2 .0)) (fieldBy (p .t2)) (put (f (p .a1 .0) (p .b1 .0)) (fieldBy (p .t1)) c)
-  stored-two f c =
-      ⊎-elim (λ x. rw (x .0) (put-twice (f (p .a1 .0) (p .b1 .0)) (fieldBy (p .t1)) c ∙ again (x .1))) (λ x. rw x) sh
-    where
-      again : lastOf p ≡ firstOf p
-          → put (f (p .a1 .0) (p .b1 .0)) (fieldBy (p .t1)) (put (f (p .a1 .0) (p .b1 .0)) (fieldBy (p .t1)) c)
-          ≡ put (f (p .a2 .0) (p .b2 .0)) (fieldBy (p .t2)) (put (f (p .a1 .0) (p .b1 .0)) (fieldBy (p .t1)) c)
-      again e = ap (λ (x : machine.Met). put (f (x .a) (x .b)) (x .target) (put (f (p .a1 .0) (p .b1 .0)) (fieldBy (p .t1)) c)) (sym e)
-
--- the numbers that meet are those of sound cells
-pub met-below : (size k ra rb : ℕ) (p : Met) → p ≡ metOf k ra rb → soundWord size ra ≡ true → soundWord size rb ≡ true → Below size p
-unfolding metOf
-met-below size k ra rb p e f g =
-    rw e
-    (record {
-      a1 = number-below (fieldBy (pairsOf k .a1)) size ra f;
-      b1 = number-below (fieldBy (pairsOf k .b1)) size rb g;
-      a2 = number-below (fieldBy (pairsOf k .a2)) size ra f;
-      b2 = number-below (fieldBy (pairsOf k .b2)) size rb g;
-    })
+use Rattle.execute.specs.Words.{fieldBy, copyOf}
+use Rattle.execute.specs.Acts.{metOf, Below, valueBy, sceneOf, Answers, Does, Set}
+use Rattle.execute.proofs.Cells.{whole}
+use Rattle.execute.proofs.FieldPairs.{Shape, shape, every-two, some-two, stored-two, met-below}
+use Rattle.execute.proofs.Arithmetic.{none-is, part-is, put-range}
 
 -- the effect by ranges of opcodes
 computes-at : (op : ℕ) (s : Scene) → 2 ≤ op → op < 7 → effectOf op s ≡ computes s (valueBy op) (s .live)
 unfolding effectOf
 computes-at op s l h = span op 2 5 l h (λ e. rw e, (λ e. rw e, (λ e. rw e, (λ e. rw e, (λ e. rw e, tt)))))
-
-pub positive : {a size : ℕ} → a < size → 0 < size
-positive h = omega arith
-
-pub value-sum : (op size a b : ℕ) {r : ℕ} → op ≡ 2 → Reduced size a b r → (some r ≡ valueBy op size a b) × (r < size)
-value-sum op size a b e h = (rw e (ap some (h .is)), h .below)
-
-pub value-difference : (op size a b : ℕ) {r : ℕ} → op ≡ 3 → Reduced size b (size - a) r → (some r ≡ valueBy op size a b) × (r < size)
-value-difference op size a b e h = (rw e (ap some (h .is)), h .below)
-
-pub value-product : (op size a b : ℕ) → op ≡ 4 → a < size → (some (a * b % size) ≡ valueBy op size a b) × (a * b % size < size)
-value-product op size a b e h = (rw e, mod-lt (a * b) (positive h))
-
--- DIV and MOD: none for a zero b
-none-is : (op size a b : ℕ) → 5 ≤ op → op < 7 → isNone (valueBy op size a b) ≡ eqb b 0
-none-is op size a zero l h = span op 5 2 l h (λ e. rw e, (λ e. rw e, tt))
-none-is op size a (suc b) l h = span op 5 2 l h (λ e. rw e, (λ e. rw e, tt)) ∙ sym (ne-eqb (suc b) 0 (λ e. omega arith))
-
-abbrev ratio : ℕ → ℕ → ℕ → ℕ
-ratio op a b = cond (eqb op 5) (a / b) (a % b)
-
-ratio-le : (op a b : ℕ) → ratio op a b ≤ a
-ratio-le op a b = by (eqb op 5)
-  where
-    by : (t : Bool) → cond t (a / b) (a % b) ≤ a
-    by true = div-le-self a b
-    by false = mod-le a b
-
-ratio-is : (op size a b : ℕ) → 5 ≤ op → op < 7 → a < size → (b ≡ 0 → ⊥) → valueBy op size a b ≡ some (ratio op a b)
-ratio-is op size a zero l h u n = absurd (n refl)
-ratio-is op size a (suc b) l h u n =
-    span op 5 2 l h (
-      λ e. rw e (ap some (sym (mod-small (lt-of-le-of-lt (div-le-self a (suc b)) u)))),
-      (λ e. rw e (ap some (sym (mod-small (lt-of-le-of-lt (mod-le a (suc b)) u)))), tt),
-    )
-
--- a target field divided
-part-is : (op size a b : ℕ) (f : Field) (t r : ℕ) → 5 ≤ op → op < 7 → a < size → packed (unpacked t) ≡ t
-    → r ≡ cond (eqb b 0) t (packed (withNumber f (cond (eqb op 5) (a / b) (a % b)) (unpacked t)))
-    → r ≡ packed (put (valueBy op size a b) f (unpacked t))
-part-is op size a zero f t r l h u e er = er ∙ sym e ∙ span op 5 2 l h (λ g. rw g, (λ g. rw g, tt))
-part-is op size a (suc b) f t r l h u e er =
-    er ∙ simp (ne-eqb (suc b) 0 (λ g. omega arith)) (rw (ratio-is op size a (suc b) l h u (λ g. omega arith)))
-
-put-range : (op size a b : ℕ) (f : Field) (c : Cell) → 5 ≤ op → op < 7 → a < size → size ≤ 46341 → InRange c → InRange (put (valueBy op size a b) f c)
-put-range op size a zero f c l h u v r = span op 5 2 l h (λ e. rw e r, (λ e. rw e r, tt))
-put-range op size a (suc b) f c l h u v r =
-    rw (ratio-is op size a (suc b) l h u (λ g. omega arith)) (with-range f _ c (let q = ratio-le op a (suc b) in omega arith) r)
 
 not-both : (a b : Bool) → (not a || not b) ≡ not (a && b)
 not-both true b = refl

@@ -3,7 +3,7 @@
 use borrow.Author.Needs.{needs}
 use Rattle.execute.proofs.modifier.meet.Statement.{statement}
 use Rattle.execute.proofs.modifier.meet.Tie as tie
-use Rattle.execute.proofs.Acting.{met-is}
+use Rattle.execute.proofs.FieldPairs.{met-is}
 
 pairs-of-requires : tie.Need-pairs-of-requires
 pairs-of-requires c κs = search needs

@@ -8,7 +8,8 @@ use Prim.Native.Nat.{zero-le}
 use native.Mathlib.Nat.{lt-of-lt-of-le}
 use lib.Dec.{lit≤, lit<}
 use Rattle.laws.proofs.Cases.{past}
-use Rattle.execute.proofs.Acting.{positive, told, with-jump, with-jump-too, with-core, data-ends, jump-goes, split-goes, rest-goes}
+use Rattle.execute.proofs.Arithmetic.{positive}
+use Rattle.execute.proofs.Acting.{told, with-jump, with-jump-too, with-core, data-ends, jump-goes, split-goes, rest-goes}
 
 opcode-requires : tie.Need-opcode-requires
 opcode-requires c κs = search needs

@@ -7,7 +7,7 @@ use native.Mathlib.Nat.{lt-trans}
 use native.Mathlib.Omega.{arith}
 use lib.Dec.{lit<}
 use Rattle.load_file.proofs.Offsets.{product-fits}
-use Rattle.execute.proofs.Acting.{value-sum, value-difference, value-product}
+use Rattle.execute.proofs.Arithmetic.{value-sum, value-difference, value-product}
 
 sum-requires : tie.Need-sum-requires
 sum-requires c κs = search needs
