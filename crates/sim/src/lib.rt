@@ -42,45 +42,29 @@ fn blank(size: u32) -> Header
     }
 }
 
+// A refusal: nothing was written, and the header is the one given.
+fn refuse(answer: Answer, h: Header) -> Outcome
+    ensures { λ r. ⌜ (r .answer ≡ answer) × (r .writes ≡ 0) × (r .header ≡ h) ⌝ }
+{
+    Outcome {
+        answer,
+        writes: 0,
+        header: h,
+    }
+}
+
 // A fresh machine: fresh cells, zeros in the queue memory, and its header.
 pub fn fresh(size: u32, core: &mut [u64], queue: &mut [u64]) -> Outcome
     ensures { λ r. ⌜ given (r .answer) (r .writes) (now (core .exit)) (now (queue .exit)) (r .header)
         ≡ givenBy (spec.fresh size (now (core .entry)) (now (queue .entry))) ⌝ }
 {
-    if size < 1 {
-        return Outcome {
-            answer: Answer::InvalidCoreSize,
-            writes: 0,
-            header: blank(0),
-        };
+    if !((1 <= size) & (size <= 46341)) {
+        return refuse(Answer::InvalidCoreSize, blank(0));
     }
-    if size > 46341 {
-        return Outcome {
-            answer: Answer::InvalidCoreSize,
-            writes: 0,
-            header: blank(0),
-        };
-    }
-    if core.len() != size as usize {
-        return Outcome {
-            answer: Answer::InvalidMemory,
-            writes: 0,
-            header: blank(0),
-        };
-    }
-    if queue.len() < 1 {
-        return Outcome {
-            answer: Answer::InvalidMemory,
-            writes: 0,
-            header: blank(0),
-        };
-    }
-    if queue.len() > 65535 {
-        return Outcome {
-            answer: Answer::InvalidMemory,
-            writes: 0,
-            header: blank(0),
-        };
+    let slots = queue.len();
+    let limited = (1 <= slots) & (slots <= 65535);
+    if (core.len() != size as usize) | !limited {
+        return refuse(Answer::InvalidMemory, blank(0));
     }
     memory::fill(core, fresh_cell());
     memory::fill(queue, 0);

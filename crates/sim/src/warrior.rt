@@ -9,6 +9,7 @@ ghost use Rattle.process.specs.Parts.{headerOf, machineOf, registerIf};
 ghost use Rattle.sim.specs.Given.{given, givenBy, Accepted};
 use crate::Outcome;
 use crate::memory::place_body;
+use crate::refuse;
 use answer::Answer;
 use load_file::offset::Absolute;
 use load_file::offset::Relative;
@@ -61,17 +62,6 @@ fn exhausted(threads: &[u32; 16], i: u32, held: u32) -> bool
     let slot = i as usize;
     let thread = threads[slot];
     (i < held) & (thread == 4294967295)
-}
-
-// A refusal: nothing was written, and the header is as it was.
-fn refuse(answer: Answer, h: Header) -> Outcome
-    ensures { λ r. ⌜ (r .answer ≡ answer) × (r .writes ≡ 0) × (r .header ≡ h) ⌝ }
-{
-    Outcome {
-        answer,
-        writes: 0,
-        header: h,
-    }
 }
 
 // Loads a warrior that passed the checks, under the name with the index i.

@@ -1,39 +1,36 @@
 -- `sim::fresh` meets its contract.
 -- Assumes nothing.
 use borrow.Author.Needs.{needs}
+use mathlib.Core.Path.{_∙_}
 use Rattle.sim.proofs.fresh.Statement.{statement}
 use Rattle.sim.proofs.fresh.Tie as tie
-use Rattle.sim.proofs.FreshMachine.{too-small, too-large, other-length, none, too-many, made}
+use Rattle.sim.proofs.FreshMachine.{bad-size, bad-memory, made}
+use Rattle.sim.proofs.Loading.{refusing}
 
 blank-requires : tie.Need-blank-requires
 blank-requires c κs = search needs
 
+refuse-requires : tie.Need-refuse-requires
+refuse-requires c κs = search needs
+
 returns : tie.Need-returns
-returns c = too-small (c .before .before .before .before .args .size) (c .before .before .before .before .args .core .now) (c .before .before .before .before .args .queue .now) (c .blank .ensures) (c .before .if1 .taken)
+returns c =
+    let s = c .before .before .before .before .before .args in
+    let r = c .refuse .ensures in
+    refusing (s .core .now) (s .queue .now) (r .0, r .1, r .2 ∙ c .before .blank .ensures) (bad-size (s .size) (s .core .now) (s .queue .now) (c .before .before .if1 .taken))
 
 blank-requires-2 : tie.Need-blank-requires-2
 blank-requires-2 c κs = search needs
 
+refuse-requires-2 : tie.Need-refuse-requires-2
+refuse-requires-2 c κs = search needs
+
 returns-2 : tie.Need-returns-2
-returns-2 c = too-large (c .before .before .before .before .before .args .size) (c .before .before .before .before .before .args .core .now) (c .before .before .before .before .before .args .queue .now) (c .blank2 .ensures) (c .before .if2 .taken)
-
-blank-requires-3 : tie.Need-blank-requires-3
-blank-requires-3 c κs = search needs
-
-returns-3 : tie.Need-returns-3
-returns-3 c = other-length (c .before .before .before .before .before .before .args .size) (c .before .before .before .before .before .before .args .core .now) (c .before .before .before .before .before .before .args .queue .now) (c .blank3 .ensures) (c .before .before .before .if1 .left) (c .before .before .if2 .left) (c .before .if3 .taken)
-
-blank-requires-4 : tie.Need-blank-requires-4
-blank-requires-4 c κs = search needs
-
-returns-4 : tie.Need-returns-4
-returns-4 c = none (c .before .before .before .before .before .before .before .args .size) (c .before .before .before .before .before .before .before .args .core .now) (c .before .before .before .before .before .before .before .args .queue .now) (c .blank4 .ensures) (c .before .before .before .before .if1 .left) (c .before .before .before .if2 .left) (c .before .before .if3 .left) (c .before .if4 .taken)
-
-blank-requires-5 : tie.Need-blank-requires-5
-blank-requires-5 c κs = search needs
-
-returns-5 : tie.Need-returns-5
-returns-5 c = too-many (c .before .before .before .before .before .before .before .before .args .size) (c .before .before .before .before .before .before .before .before .args .core .now) (c .before .before .before .before .before .before .before .before .args .queue .now) (c .blank5 .ensures) (c .before .before .before .before .before .if1 .left) (c .before .before .before .before .if2 .left) (c .before .before .before .if3 .left) (c .before .if5 .taken)
+returns-2 c =
+    let s = c .before .before .before .before .before .before .args in
+    let r = c .refuse2 .ensures in
+    refusing (s .core .now) (s .queue .now) (r .0, r .1, r .2 ∙ c .before .blank2 .ensures)
+    (bad-memory (s .size) (s .core .now) (s .queue .now) (c .before .before .before .if1 .left) (c .before .before .if2 .taken))
 
 fresh-cell-requires : tie.Need-fresh-cell-requires
 fresh-cell-requires c κs = search needs
@@ -44,8 +41,8 @@ fill-requires c κs = search needs
 fill-requires-2 : tie.Need-fill-requires-2
 fill-requires-2 c κs = search needs
 
-blank-requires-6 : tie.Need-blank-requires-6
-blank-requires-6 c κs = search needs
+blank-requires-3 : tie.Need-blank-requires-3
+blank-requires-3 c κs = search needs
 
 same-length : tie.Need-same-length
 same-length c = search needs
@@ -53,27 +50,25 @@ same-length c = search needs
 same-length-2 : tie.Need-same-length-2
 same-length-2 c = search needs
 
-returns-6 : tie.Need-returns-6
-returns-6 c = made (c .before .before .before .before .before .before .before .before .before .before .before .before .before .before .before .before .before .args .size) (c .before .before .before .before .before .before .before .before .before .before .before .before .before .before .before .before .before .args .core .now) (c .before .before .before .before .before .before .before .before .before .before .before .before .before .before .before .before .before .args .queue .now) (c .before .before .before .before .before .before .before .before .before .before .before .before .before .before .if1 .left) (c .before .before .before .before .before .before .before .before .before .before .before .before .before .if2 .left) (c .before .before .before .before .before .before .before .before .before .before .before .before .if3 .left) (c .before .before .before .before .before .before .before .before .before .before .before .if4 .left) (c .before .before .before .before .before .before .before .before .before .before .if5 .left) (c .before .before .before .before .before .before .before .before .fresh-cell .ensures) (c .before .before .before .before .before .before .before .fill .ensures) (c .before .before .before .fill2 .ensures) (c .blank6 .ensures)
+returns-3 : tie.Need-returns-3
+returns-3 c =
+    let s = c .before .before .before .before .before .before .before .before .before .before .before .before .before .before .args in
+    made (s .size) (s .core .now) (s .queue .now) (c .before .before .before .before .before .before .before .before .before .before .before .if1 .left) (c .before .before .before .before .before .before .before .before .before .before .if2 .left) (c .before .before .before .before .before .before .before .before .fresh-cell .ensures) (c .before .before .before .before .before .before .before .fill .ensures) (c .before .before .before .fill2 .ensures) (c .blank3 .ensures)
 
 pub fresh-spec : {M : Type 1} → statement M
 fresh-spec =
     tie.close
     (tie.spec
     blank-requires
+    refuse-requires
     returns
     blank-requires-2
+    refuse-requires-2
     returns-2
-    blank-requires-3
-    returns-3
-    blank-requires-4
-    returns-4
-    blank-requires-5
-    returns-5
     fresh-cell-requires
     fill-requires
     fill-requires-2
-    blank-requires-6
+    blank-requires-3
     same-length
     same-length-2
-    returns-6)
+    returns-3)
