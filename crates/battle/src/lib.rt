@@ -4,8 +4,8 @@ ghost use mathlib.Core.List.{_++_};
 ghost use Prim.Native.Nat.{_-_, _≤_};
 ghost use lib.ListN.{length, replicate};
 ghost use Rattle.battle.specs.Text.{printed};
-use machine::Header;
 use playing::play_file;
+use sim::blank;
 use text::put_refusal;
 use text::put_run;
 
@@ -46,21 +46,6 @@ fn text_memory() -> [u8; 16384]
     [0; 16384]
 }
 
-// The header of no machine.
-fn blank() -> Header {
-    Header {
-        size: 0,
-        head: 0,
-        length: 0,
-        steps: 0,
-        held: 0,
-        names: [0; 512],
-        lengths: [0; 16],
-        counts: [0; 16],
-        threads: [0; 16],
-    }
-}
-
 // Plays a match file: gives every byte that is to be printed.
 pub fn play(file: &[u8]) -> Printed
     ensures { λ r. ⌜ (r .bytes ≡ printed (now (file .entry)) ++ replicate (16384 - length (printed (now (file .entry)))) 0) × (r .length ≡ length (printed (now (file .entry)))) × (r .length ≤ length (r .bytes)) ⌝ }
@@ -68,7 +53,7 @@ pub fn play(file: &[u8]) -> Printed
     let mut core = core_memory();
     let mut queue = queue_memory();
     let mut bytes = text_memory();
-    let p = play_file(file, &mut core, &mut queue, blank());
+    let p = play_file(file, &mut core, &mut queue, blank(0));
     let answer = p.answer;
     if p.ran {
         let h = p.header;

@@ -1,14 +1,15 @@
 -- Steps taken and next thread numbers stay at most 4,294,967,295: the part of 01's sound header that the program has by its types.
 -- Assumes nothing.
-use Prim.Native.Nat.{ℕ, zero, suc, _≤_, _<_}
+use Prim.Native.Nat.{ℕ, _≤_, _<_}
 use mathlib.Core.Path.{_≡_, refl, sym, subst}
 use mathlib.Core.Bool.{Bool, true, false, cond, not, _&&_}
-use mathlib.Core.List.{List, [], _∷_}
+use mathlib.Core.List.{List}
 use native.Mathlib.Omega.{arith}
 use lib.Dec.{eqb}
 use lib.ListN.{getD, set}
 use borrow.Author.Tests.{eqb-true, eqb-false}
 use Rattle.laws.proofs.Tests.{neither}
+use Rattle.laws.proofs.Lists.{zero-there}
 use Rattle.laws.proofs.Every.{Every, every-or, every-set, every-replicate}
 use Rattle.program.specs.Metadata.{called}
 use Rattle.machine.specs.declared.Ceiling.{Ceiling}
@@ -75,11 +76,6 @@ pub run-bounded : (c : Ceiling) (m : Machine) → Bounded (m .header) → Bounde
 run-bounded c m b = run-keeps (λ n. Bounded (n .header)) step-bounded c m b
 
 -- a load
-zero-set : (l : List ℕ) (i : ℕ) → _≡_ {A = ℕ} (getD (set l i 0) i 0) 0
-zero-set [] i = refl
-zero-set (x ∷ xs) zero = refl
-zero-set (x ∷ xs) (suc i) = zero-set xs i
-
 module _ (h : Header) (n : List ℕ) (b : Bounded h) (free : (not (isNew h n) && eqb (getD (h .threads) (slot h n) 0) 4294967295) ≡ false) where
   registered-bounded : Bounded (registered h n)
   unfolding register
@@ -98,7 +94,7 @@ module _ (h : Header) (n : List ℕ) (b : Bounded h) (free : (not (isNew h n) &&
       go false e f = thread-below h (slot h n) b f
       go true e f =
           let z : getD (set (h .threads) (h .held) 0) (slot h n) 0 ≡ 0
-          = subst (λ (i : ℕ). getD (set (h .threads) (h .held) 0) i 0 ≡ 0) (sym (eqb-true _ _ e)) (zero-set (h .threads) (h .held)) in
+          = subst (λ (i : ℕ). getD (set (h .threads) (h .held) 0) i 0 ≡ 0) (sym (eqb-true _ _ e)) (zero-there (h .threads) (h .held)) in
           omega arith
 
 module _ (m : Machine) (given body : List ℕ) (origin place : ℕ) (b : Bounded (m .header)) where

@@ -4,6 +4,7 @@ use mathlib.Core.Path.{_≡_, refl, sym, ap, _∙_}
 use mathlib.Core.Bool.{true, false, not}
 use mathlib.Core.List.{List, [], _∷_, _++_}
 use Prim.Native.Nat.{ℕ, zero, suc, _+_, _*_, _≤_, _<_}
+use native.Mathlib.Nat.{add-zero}
 use native.Mathlib.Omega.{arith}
 use lib.Dec.{leb, ltb}
 use lib.ListN.{length, getD}
@@ -24,7 +25,7 @@ use Rattle.match_file.specs.Reading.{warriorsAt}
 use Rattle.match_file.proofs.Parts.{length-part}
 use Rattle.match_file.proofs.Numbers.{number-lt}
 use Rattle.match_file.proofs.Chains.{all-right}
-use Rattle.match_file.proofs.Whole.{first-line, later-lines, lines-start, LineAt}
+use Rattle.match_file.proofs.Whole.{first-line, later-lines, LineAt, line-at}
 use Rattle.match_file.proofs.Warriors.{length-body, count-is}
 use Rattle.match_write.specs.Writing.{settle, checks}
 
@@ -105,7 +106,7 @@ fits-read f p s zero b e = tt
 fits-read f p s (suc n) b e =
     let o = first-line f p s n e in
     let m : ℕ = s + 12 * number f (p + 37) 2 in
-    let k : LineAt f p = record { start = s; line = o; ends = lines-start f (p + 43) m n (later-lines f p s n e) } in
+    let k : LineAt f p = rw add-zero at (line-at f p s (suc n) 0 e (omega arith)) in
     let z : ℕ = getD f p 0 in
     let g : p + 43 ≤ length f = o .fits in
     let h : z ≤ 32 = o .short in

@@ -3,6 +3,7 @@
 use mathlib.Core.Path.{_≡_, refl, sym, ap, ap₂, _∙_}
 use mathlib.Core.List.{List, _∷_, _++_}
 use Prim.Native.Nat.{ℕ, zero, suc, _+_, _-_, _*_, _≤_}
+use native.Mathlib.Nat.{add-zero}
 use native.Mathlib.Omega.{arith}
 use lib.ListN.{length, getD, drop, replicate, take-append-drop}
 use lib.Seq.{drop-drop, drop-cons}
@@ -15,7 +16,7 @@ use Rattle.match_file.proofs.Parts.{length-part, part-add, part-first}
 use Rattle.match_file.proofs.Numbers.{spelled-number}
 use Rattle.match_file.proofs.Chains.{all-right, all-zero}
 use Rattle.match_file.proofs.Lines.{LineOk}
-use Rattle.match_file.proofs.Whole.{head-ok, first-line, later-lines, lines-start, LineAt}
+use Rattle.match_file.proofs.Whole.{head-ok, first-line, later-lines, LineAt, line-at}
 use Rattle.match_file.proofs.Warriors.{length-warriors, length-body, count-is, bodies-are}
 
 module _ (f : List ℕ) (b : Bytes f) where
@@ -57,7 +58,7 @@ module _ (f : List ℕ) (b : Bytes f) where
   lines-again p s (suc n) e =
       let o = first-line f p s n e in
       let m : ℕ = s + 12 * number f (p + 37) 2 in
-      let k : LineAt f p = record { start = s; line = o; ends = lines-start f (p + 43) m n (later-lines f p s n e) } in
+      let k : LineAt f p = rw add-zero at (line-at f p s (suc n) 0 e (omega arith)) in
       let bd : List ℕ = part f (number f (p + 33) 4) (12 * number f (p + 37) 2) in
       let nm : List ℕ = part f (p + 1) (getD f p 0) in
       let z : 43 + 43 * n ≡ 43 * suc n = omega arith in

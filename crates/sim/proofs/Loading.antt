@@ -3,7 +3,7 @@
 use mathlib.Core.Path.{_≡_, refl, sym, ap, ap₂, _∙_}
 use mathlib.Core.Bool.{Bool, true, false, cond, not, _&&_, true≢false}
 use mathlib.Core.List.{List, [], _∷_}
-use Prim.Native.Nat.{ℕ, zero, suc, _≤_, _<_}
+use Prim.Native.Nat.{ℕ, _≤_, _<_}
 use native.Mathlib.Omega.{arith}
 use lib.Dec.{eqb, leb, ltb}
 use lib.ListN.{length, getD, take, set}
@@ -13,6 +13,7 @@ use Rattle.answer.specs.declared.Answer.the-variants.{Done, WarriorTooLong, Inv
 use Rattle.answer.specs.Numbers.{gives}
 use Rattle.laws.specs.Lists.{total, same}
 use Rattle.laws.proofs.Tests.{both, holds}
+use Rattle.laws.proofs.Lists.{zero-there}
 use Rattle.laws.proofs.Tables.{length-table}
 use Rattle.laws.proofs.Tally.{count-le}
 use Rattle.laws.proofs.Lowest.{lowest-le}
@@ -30,12 +31,6 @@ use Rattle.machine.specs.Load.{placed, originOf, loadChecks, loaded, load}
 use Rattle.process.specs.Parts.{headerOf, queueOf, startIf, registerIf}
 use Rattle.process.proofs.Rings.{inside, room}
 use Rattle.sim.specs.Given.{Given, given, givenBy, placedIf, Accepted}
-
--- a store of 0, read again
-zero-there : (l : List ℕ) (i : ℕ) → _≡_ {A = ℕ} (getD (set l i 0) i 0) 0
-zero-there [] i = refl
-zero-there (x ∷ xs) zero = refl
-zero-there (x ∷ xs) (suc i) = zero-there xs i
 
 -- the index of a name
 slot-le : (h : Header) (name : List ℕ) → slot h name ≤ h .held

@@ -26,7 +26,7 @@ pub struct Outcome {
 }
 
 // A header with a size, and everything else 0.
-fn blank(size: u32) -> Header
+pub fn blank(size: u32) -> Header
     ensures { λ r. ⌜ r ≡ spec.blank size ⌝ }
 {
     Header {
