@@ -1,20 +1,16 @@
 -- What run gives of a whole record.
 -- Assumes nothing.
-use mathlib.Core.Path.{_≡_, ap, _∙_}
+use mathlib.Core.Path.{_≡_, ap}
 use Prim.Native.Nat.{ℕ}
 use mathlib.Core.Bool.{true, false}
-use mathlib.Core.List.{List}
 use lib.ListN.{length}
-use Rattle.answer.specs.declared.Answer.{Answer}
 use Rattle.answer.specs.declared.Answer.the-variants.{UnsoundRecord}
 use Rattle.machine.specs.State.{Machine}
-use Rattle.machine.specs.declared.Header.{Header}
 use Rattle.machine.specs.Soundness.{soundHeader}
 use Rattle.machine.specs.declared.Ceiling.{Ceiling}
 use Rattle.machine.specs.declared.Ceiling.the-variants.{Steps}
 use Rattle.machine.specs.Run.{ceilingOf, run}
-use Rattle.process.specs.Parts.{machineOf}
-use Rattle.cycle.specs.Given.{Given, given, givenBy, Ready}
+use Rattle.cycle.specs.Given.{given, givenBy, Ready}
 
 pub ready : (m : Machine) → soundHeader m ≡ true
     → (length (m .header .names) ≡ 512) × (length (m .header .lengths) ≡ 16) × (length (m .header .counts) ≡ 16) × (length (m .header .threads) ≡ 16) → Ready m
@@ -28,11 +24,3 @@ unsound-run ceiling m e = simp e
 pub run-by : (ceiling : Ceiling) (m : Machine) {limit : ℕ} → limit ≡ ceilingOf ceiling → givenBy (run (Steps limit) m) ≡ givenBy (run ceiling m)
 unfolding run
 run-by ceiling m e = ap (λ (k : ℕ). givenBy (run (Steps k) m)) e
-
--- what came of a run, with the header put together again
-pub together : (core queue : List ℕ) {answer answer′ : Answer} {writes writes′ steps steps′ : ℕ} {h h′ : Header} {g : Given}
-    → (answer ≡ answer′) × (writes ≡ writes′) × (steps ≡ steps′) × (h ≡ h′) → given answer′ writes′ steps′ (machineOf core queue h′) ≡ g
-    → given answer writes steps (machineOf core queue h) ≡ g
-together core queue {answer} {answer′} {writes} {writes′} {steps} {steps′} {h} e p =
-    ap (λ (a : Answer). given a writes steps (machineOf core queue h)) (e .0) ∙ ap (λ (w : ℕ). given answer′ w steps (machineOf core queue h)) (e .1)
-    ∙ ap (λ (s : ℕ). given answer′ writes′ s (machineOf core queue h)) (e .2) ∙ ap (λ (x : Header). given answer′ writes′ steps′ (machineOf core queue x)) (e .3) ∙ p

@@ -1,12 +1,10 @@
 // Step and run (01, 'One step').
 ghost use mathlib.Core.Path.{_≡_};
-ghost use mathlib.Core.List.{[]};
 ghost use Rattle.machine.specs.Step as one;
 ghost use Rattle.machine.specs.Run as spec;
 ghost use Rattle.process.specs.Parts.{machineOf};
-ghost use Rattle.cycle.specs.Given.{given, givenBy, parts};
+ghost use Rattle.cycle.specs.Given.{given, givenBy};
 use crate::parts::run_parts;
-use crate::running::Ran;
 use answer::Answer;
 use machine::Ceiling;
 use machine::Header;
@@ -35,35 +33,8 @@ fn ceiling_of(ceiling: Ceiling) -> u64
     }
 }
 
-// What came of a run on the parts of a header, with the header put together again.
-fn put_together(h: Header, s: Ran, counts: [u32; 16], threads: [u32; 16]) -> Outcome
-    ensures { λ r. ⌜ (r .answer ≡ s .answer) × (r .writes ≡ s .writes) × (r .steps ≡ s .steps)
-        × (r .header ≡ parts [] [] (h .size) (s .ring .head) (s .ring .length) (s .taken) (h .held) (h .names) (h .lengths) counts threads .header) ⌝ }
-{
-    let answer = s.answer;
-    let names = h.names;
-    let lengths = h.lengths;
-    let header = Header {
-        size: h.size,
-        head: s.ring.head,
-        length: s.ring.length,
-        steps: s.taken,
-        held: h.held,
-        names,
-        lengths,
-        counts,
-        threads,
-    };
-    Outcome {
-        answer,
-        writes: s.writes,
-        steps: s.steps,
-        header,
-    }
-}
-
 // Steps while steps taken are below the ceiling, up to the first answer not 0.
-pub fn run(core: &mut [u64], queue: &mut [u64], h: Header, ceiling: Ceiling) -> Outcome
+pub fn run(core: &mut [u64], queue: &mut [u64], mut h: Header, ceiling: Ceiling) -> Outcome
     ensures { λ r. ⌜ given (r .answer) (r .writes) (r .steps) (machineOf (now (core .exit)) (now (queue .exit)) (r .header))
         ≡ givenBy (spec.run ceiling (machineOf (now (core .entry)) (now (queue .entry)) h)) ⌝ }
 {
@@ -87,11 +58,22 @@ pub fn run(core: &mut [u64], queue: &mut [u64], h: Header, ceiling: Ceiling) -> 
         h.steps,
         limit,
     );
-    put_together(h, s, counts, threads)
+    h.head = s.ring.head;
+    h.length = s.ring.length;
+    h.steps = s.taken;
+    h.counts = counts;
+    h.threads = threads;
+    let answer = s.answer;
+    Outcome {
+        answer,
+        writes: s.writes,
+        steps: s.steps,
+        header: h,
+    }
 }
 
 // Executes one instruction of the process at the front: a run with a ceiling of one more step.
-pub fn step(core: &mut [u64], queue: &mut [u64], h: Header) -> Outcome
+pub fn step(core: &mut [u64], queue: &mut [u64], mut h: Header) -> Outcome
     ensures { λ r. ⌜ given (r .answer) (r .writes) (r .steps) (machineOf (now (core .exit)) (now (queue .exit)) (r .header))
         ≡ givenBy (one.step (machineOf (now (core .entry)) (now (queue .entry)) h)) ⌝ }
 {
@@ -115,5 +97,16 @@ pub fn step(core: &mut [u64], queue: &mut [u64], h: Header) -> Outcome
         h.steps,
         limit,
     );
-    put_together(h, s, counts, threads)
+    h.head = s.ring.head;
+    h.length = s.ring.length;
+    h.steps = s.taken;
+    h.counts = counts;
+    h.threads = threads;
+    let answer = s.answer;
+    Outcome {
+        answer,
+        writes: s.writes,
+        steps: s.steps,
+        header: h,
+    }
 }

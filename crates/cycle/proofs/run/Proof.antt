@@ -3,7 +3,7 @@
 use borrow.Author.Needs.{needs}
 use mathlib.Core.Path.{_∙_}
 use Rattle.process.specs.Parts.{machineOf}
-use Rattle.cycle.proofs.Calls.{together, run-by}
+use Rattle.cycle.proofs.Calls.{run-by}
 use Rattle.cycle.proofs.run.Statement.{statement}
 use Rattle.cycle.proofs.run.Tie as tie
 
@@ -13,9 +13,6 @@ ceiling-of-requires c κs = search needs
 run-parts-requires : tie.Need-run-parts-requires
 run-parts-requires c κs = search needs
 
-put-together-requires : tie.Need-put-together-requires
-put-together-requires c κs = search needs
-
 same-length : tie.Need-same-length
 same-length c = search needs
 
@@ -24,16 +21,9 @@ same-length-2 c = search needs
 
 returns : tie.Need-returns
 returns c =
-    let a = c .before .before .before .before .before .before .before .before .before .before .before .before .before .before .before .before .before .before .args in
-    together _ _ (c .put-together .ensures) (c .before .before .before .before .before .run-parts .ensures) ∙ run-by (a .ceiling) (machineOf (a .core .now) (a .queue .now) (a .t3)) (c .before .before .before .before .before .before .before .before .before .before .before .before .before .ceiling-of .ensures)
+    let a = c .before .before .before .before .before .before .before .before .before .before .before .before .before .before .before .before .before .args in
+    c .before .before .before .before .run-parts .ensures ∙ run-by (a .ceiling) (machineOf (a .core .now) (a .queue .now) (a .t3)) (c .before .before .before .before .before .before .before .before .before .before .before .before .ceiling-of .ensures)
 
 pub run-spec : {M : Type 1} → statement M
 run-spec =
-    tie.close
-    (tie.spec
-    ceiling-of-requires
-    run-parts-requires
-    put-together-requires
-    same-length
-    same-length-2
-    returns)
+    tie.close (tie.spec ceiling-of-requires run-parts-requires same-length same-length-2 returns)

@@ -5,7 +5,6 @@ use mathlib.Core.Path.{ap, _∙_}
 use Rattle.machine.proofs.Run.{run-one}
 use Rattle.process.specs.Parts.{machineOf}
 use Rattle.cycle.specs.Given.{givenBy}
-use Rattle.cycle.proofs.Calls.{together}
 use Rattle.cycle.proofs.step.Statement.{statement}
 use Rattle.cycle.proofs.step.Tie as tie
 
@@ -18,9 +17,6 @@ add-limit c = search needs
 run-parts-requires : tie.Need-run-parts-requires
 run-parts-requires c κs = search needs
 
-put-together-requires : tie.Need-put-together-requires
-put-together-requires c κs = search needs
-
 same-length : tie.Need-same-length
 same-length c = search needs
 
@@ -29,17 +25,9 @@ same-length-2 c = search needs
 
 returns : tie.Need-returns
 returns c =
-    let a = c .before .before .before .before .before .before .before .before .before .before .before .before .before .before .before .before .before .args in
-    together _ _ (c .put-together .ensures) (c .before .before .before .before .before .run-parts .ensures) ∙ ap givenBy (run-one (machineOf (a .core .now) (a .queue .now) (a .t3)))
+    let a = c .before .before .before .before .before .before .before .before .before .before .before .before .before .before .before .before .args in
+    c .before .before .before .before .run-parts .ensures ∙ ap givenBy (run-one (machineOf (a .core .now) (a .queue .now) (a .t3)))
 
 pub step-spec : {M : Type 1} → statement M
 step-spec =
-    tie.close
-    (tie.spec
-    cast-limit
-    add-limit
-    run-parts-requires
-    put-together-requires
-    same-length
-    same-length-2
-    returns)
+    tie.close (tie.spec cast-limit add-limit run-parts-requires same-length same-length-2 returns)
