@@ -90,7 +90,7 @@ all-lawful body e =
     lowest-none (λ x. not (lawful x)) (split (instructions body) body) (rw (length-split (instructions body) body) (ltb-false _ _ e))
 
 -- instructions that are lawful are whole, and so is their body
-twelve-each : (n : ℕ) (body : List ℕ) → Every (λ x. not (lawful x) ≡ false) (split n body) → 12 * n ≤ length body
+pub twelve-each : (n : ℕ) (body : List ℕ) → Every (λ x. not (lawful x) ≡ false) (split n body) → 12 * n ≤ length body
 twelve-each zero body e = omega arith
 twelve-each (suc n) body e =
     let x : List ℕ = take 12 body in

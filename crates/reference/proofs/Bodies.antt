@@ -1,6 +1,6 @@
 -- A body: our cells, placed from cell 0 on, are the Rust's normalized instructions.
 -- Assumes nothing.
-use Prim.Native.Nat.{ℕ, zero, suc, _+_, _*_, _/_, _%_, _≤_, _<_, zero-le}
+use Prim.Native.Nat.{ℕ, suc, _+_, _*_, _/_, _%_, _≤_, _<_}
 use mathlib.Core.Path.{_≡_, refl, sym, ap, ap₂, _∙_}
 use mathlib.Core.Bool.{Bool, true, false, cond, not}
 use mathlib.Core.List.{List, [], _∷_, map}
@@ -10,7 +10,7 @@ use native.Mathlib.Numerals.{add-one}
 use native.Mathlib.Omega.{arith}
 use lib.Dec.{eqb, ltb}
 use lib.IntN.{pos}
-use lib.ListN.{length, getD, take, drop, set, length-set, length-map, length-take, length-drop}
+use lib.ListN.{length, getD, set, length-set, length-map}
 use borrow.Author.Tests.{le-leb}
 use Rattle.laws.proofs.Numbers.{below}
 use Rattle.laws.proofs.Every.{_and_, Every}
@@ -22,7 +22,7 @@ use Rattle.load_file.proofs.Soundness.{in-range}
 use Rattle.program.specs.Bytes.{part, value, signed}
 use Rattle.program.specs.Program as Program
 use Rattle.program.specs.Program.{instructions, split, aModeOf, bModeOf, lawful, lowestFault, cellOf, cells}
-use Rattle.program.proofs.Program.{length-split, Lawful, lawful-fields, all-lawful, lawful-cell}
+use Rattle.program.proofs.Program.{length-split, Lawful, lawful-fields, all-lawful, twelve-each, lawful-cell}
 use Rattle.machine.specs.Load.{placed}
 use Rattle.reference.specs.Types.{Modifier, AB, B, mode-number, default-88-to-94}
 use Rattle.reference.specs.Core.{normalize, written-from}
@@ -119,18 +119,11 @@ module _ (size : ℕ) (positive : 0 < size) (small : size ≤ 65536) where
       long : length next ≡ length core
       long = length-set core i (packed (cellOf size x))
 
-  -- lawful instructions are whole, so a body has no other
-  whole : (n : ℕ) (body : List ℕ) → Every (λ x. not (lawful x) ≡ false) (split n body) → 12 * n ≤ length body
-  whole zero body e = zero-le
-  whole (suc n) body e =
-      let h = whole n (drop 12 body) (e .1) in
-      omega (arith, length-take 12 body, lawful-fields (take 12 body) (e .0) .whole, length-drop 12 body)
-
   pub body-is : (body core : List ℕ) → ltb (lowestFault body) (instructions body) ≡ false → instructions body ≤ length core
       → written-from size 0 (map readInstruction (split (instructions body) body)) (map wordOf core) ≡ map wordOf (placed core 0 (cells size body))
   unfolding cells
   body-is body core e l =
       let h = all-lawful body e in
-      let w = whole (instructions body) body h in
+      let w = twelve-each (instructions body) body h in
       written-is (split (instructions body) body) core 0 h (rw (length-split (instructions body) body) (omega arith))
       ∙ ap (λ (n : ℕ). map wordOf (placed core 0 (words (split n body)))) (let q : instructions body ≡ length body / 12 = omega arith in q)
