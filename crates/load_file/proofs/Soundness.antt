@@ -1,8 +1,8 @@
 -- What a sound word is, field by field, and that what is packed of sound fields is sound.
 -- Assumes nothing.
-use mathlib.Core.Path.{_≡_, ap, _∙_}
-use mathlib.Core.Bool.{true, _&&_}
-use Prim.Native.Nat.{ℕ, _/_, _^_, _≤_, _<_}
+use mathlib.Core.Path.{_≡_, refl, sym, ap, _∙_}
+use mathlib.Core.Bool.{Bool, true, false, _&&_}
+use Prim.Native.Nat.{ℕ, _*_, _/_, _%_, _^_, _≤_, _<_}
 use native.Mathlib.Omega.{arith}
 use lib.Dec.{eqb, leb, ltb}
 use borrow.Author.Tests.{eqb-true, leb-true, ltb-true, eq-eqb, le-leb, lt-ltb}
@@ -58,3 +58,50 @@ fields-sound size c l h =
   where
     top : (c : Cell) → packed c / 2 ^ 46 ≡ 0
     top c = omega arith
+
+-- tests of which each tells the other are one
+either-way : (a b : Bool) → (a ≡ true → b ≡ true) → (b ≡ true → a ≡ true) → a ≡ b
+either-way true b f g = sym (f refl)
+either-way false true f g = g refl
+either-way false false f g = refl
+
+-- a word's soundness, its opcode tested with the bits above it and its A number with the B number
+abbrev fourTests : ℕ → ℕ → Bool
+fourTests size w = leb (w / 2 ^ 41) 18 && leb (w / 2 ^ 38 % 2 ^ 3) 6 && ltb (w % 2 ^ 32) (size * 65536) && ltb (w % 2 ^ 16) size
+
+four-told : (size w : ℕ) → soundWord size w ≡ true → fourTests size w ≡ true
+four-told size w e =
+    let f = sound-fields size w e in
+    simp (le-leb _ _ (high w (f .0) (f .1 .opcode)), le-leb _ _ (f .1 .modifier), lt-ltb _ _ (numbers size w (f .1 .a)), lt-ltb _ _ (f .1 .b))
+  where
+    high : (w : ℕ) → w < 2 ^ 46 → w / 2 ^ 41 % 2 ^ 5 ≤ 18 → w / 2 ^ 41 ≤ 18
+    high w t h = omega arith
+
+    numbers : (size w : ℕ) → w / 2 ^ 16 % 2 ^ 16 < size → w % 2 ^ 32 < size * 65536
+    numbers size w h = omega arith
+
+four-tell : (size w : ℕ) → fourTests size w ≡ true → soundWord size w ≡ true
+unfolding soundWord
+four-tell size w e =
+    let p = both (leb (w / 2 ^ 41) 18 && leb (w / 2 ^ 38 % 2 ^ 3) 6 && ltb (w % 2 ^ 32) (size * 65536)) (ltb (w % 2 ^ 16) size) e in
+    let q = both (leb (w / 2 ^ 41) 18 && leb (w / 2 ^ 38 % 2 ^ 3) 6) (ltb (w % 2 ^ 32) (size * 65536)) (p .0) in
+    let r = both (leb (w / 2 ^ 41) 18) (leb (w / 2 ^ 38 % 2 ^ 3) 6) (q .0) in
+    simp (
+      le-leb (unpacked w .opcode) 18 (low w (leb-true _ _ (r .0))),
+      r .1,
+      lt-ltb (unpacked w .a .0) size (number size w (ltb-true _ _ (q .1))),
+      p .1,
+      eq-eqb (w / 2 ^ 46) 0 (top w (leb-true _ _ (r .0))),
+    )
+  where
+    low : (w : ℕ) → w / 2 ^ 41 ≤ 18 → w / 2 ^ 41 % 2 ^ 5 ≤ 18
+    low w h = omega arith
+
+    top : (w : ℕ) → w / 2 ^ 41 ≤ 18 → w / 2 ^ 46 ≡ 0
+    top w h = omega arith
+
+    number : (size w : ℕ) → w % 2 ^ 32 < size * 65536 → w / 2 ^ 16 % 2 ^ 16 < size
+    number size w h = omega arith
+
+pub sound-by-four : (size w : ℕ) → fourTests size w ≡ soundWord size w
+sound-by-four size w = either-way _ _ (four-tell size w) (four-told size w)

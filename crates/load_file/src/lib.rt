@@ -64,15 +64,14 @@ pub fn with_b(w: u64, b: Relative) -> u64
     w & 0x3fff_ffff_0000 | b.0 as u64 & 0xffff
 }
 
-// Whether a word is sound in a core of that size.
+// Whether a word is sound in a core of that size: the opcode is tested with the bits above it, which are 0, and the A number with the B number.
 pub fn sound(w: u64, size: u32) -> bool
     ensures { λ r. ⌜ r ≡ soundWord size w ⌝ }
 {
-    ((w >> 41) & 31 <= 18)
+    (w >> 41 <= 18)
         & ((w >> 38) & 7 <= 6)
-        & ((w >> 16) & 0xffff < size as u64)
+        & (w & 0xffff_ffff < size as u64 * 65536)
         & (w & 0xffff < size as u64)
-        & (w >> 46 == 0)
 }
 
 // The word of a fresh cell.

@@ -1,13 +1,16 @@
 -- `load_file::sound` meets its contract.
 -- Assumes nothing.
+use borrow.Author.Needs.{needs}
 use Rattle.load_file.proofs.sound.Statement.{statement}
 use Rattle.load_file.proofs.sound.Tie as tie
 use lib.Bits.{and-mask}
-use Rattle.load_file.specs.Cells.{soundWord}
+use Rattle.load_file.proofs.Soundness.{sound-by-four}
+
+mul-result : tie.Need-mul-result
+mul-result c = search needs
 
 returns : tie.Need-returns
-unfolding soundWord
-returns c = rw (and-mask _ 5, and-mask _ 3, and-mask _ 16, and-mask _ 16)
+returns c = rw (and-mask _ 3, and-mask _ 32, and-mask _ 16) (sound-by-four _ _)
 
 pub sound-spec : {M : Type 1} → statement M
-sound-spec = tie.close (tie.spec returns)
+sound-spec = tie.close (tie.spec mul-result returns)
