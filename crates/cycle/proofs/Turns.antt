@@ -3,24 +3,88 @@
 use mathlib.Core.Path.{_≡_, refl, sym, ap, _∙_}
 use mathlib.Core.Bool.{Bool, true, false, cond, not, _&&_}
 use mathlib.Core.List.{List, []}
-use Prim.Native.Nat.{ℕ, _+_, _-_, _≤_, _<_}
-use native.Mathlib.Nat.{mod-lt}
+use Prim.Native.Nat.{ℕ, _+_, _-_, _%_, _≤_, _<_}
+use native.Mathlib.Nat.{mod-lt, mod-add-mod}
 use native.Mathlib.Omega.{arith}
 use lib.Dec.{eqb, leb}
 use lib.ListN.{length, getD, set, length-set}
-use lib.Seq.{getD-set-same}
+use lib.Seq.{getD-set-same, set-set, set-getD}
 use borrow.Author.Tests.{leb-true, lt-ltb, ne-eqb}
 use Rattle.laws.proofs.Tests.{both, and-true}
 use Rattle.laws.proofs.Tally.{count-le}
+use Rattle.load_file.specs.Offset.{ahead}
 use Rattle.machine.specs.declared.Entry.{Entry}
 use Rattle.machine.specs.State.{Machine}
 use Rattle.machine.specs.Names.{numbered}
-use Rattle.machine.specs.Queue.{unpackedEntry, front, full, pop, push, started}
+use Rattle.machine.specs.Queue.{packedEntry, unpackedEntry, entry, front, full, pop, push, started}
 use Rattle.machine.specs.Step.{counted}
 use Rattle.machine.proofs.Soundness.{SoundHeader, SoundEntry}
 use Rattle.process.specs.Parts.{queueOf, headed, popIf, hasRoom, pushIf, startIf}
 use Rattle.process.proofs.Rings.{inside, room}
-use Rattle.cycle.specs.Turn.{threaded, turned}
+use Rattle.cycle.specs.Turn.{Front, threaded, turned}
+
+-- a count lowered and raised again
+lower-raise : (l : List ℕ) (n : ℕ) → n < length l → 0 < getD l n 0 → l ≡ set (set l n (getD l n 0 - 1)) n (getD (set l n (getD l n 0 - 1)) n 0 + 1)
+lower-raise l n h p =
+    sym (set-set l n _ _ ∙ ap (λ (v : ℕ). set l n (v + 1)) (getD-set-same l n (getD l n 0 - 1) 0 h) ∙ ap (set l n) (back p) ∙ set-getD l n 0)
+  where
+    back : {k : ℕ} → 0 < k → k - 1 + 1 ≡ k
+    back q = omega arith
+
+-- the slot behind the last entry, counted from the head before a pop and after it
+slot-is : (h l m : ℕ) → 0 < l → (h + l) % m ≡ ((h + 1) % m + (l - 1)) % m
+slot-is h l m p = sym (mod-add-mod (h + 1) m (l - 1) ∙ ap (λ (k : ℕ). k % m) (sum p))
+  where
+    sum : 0 < l → h + 1 + (l - 1) ≡ h + l
+    sum q = omega arith
+
+-- a queue with its front entry: the entry is popped and pushed at another place
+module _ {queue counts : List ℕ} {head len w : ℕ} (f : Front queue head len counts w) where
+  abbrev line : Machine
+  line = queueOf queue head len counts []
+
+  abbrev name : ℕ
+  name = unpackedEntry w .name
+
+  popped : popIf line ≡ pop line
+  unfolding popIf
+  popped = simp (inside line (f .slots) (f .place))
+
+  pop-is : pop line ≡ queueOf queue (ahead (length queue) head 1) (len - 1) (set counts name (getD counts name 0 - 1)) []
+  unfolding pop
+  pop-is =
+      ap (λ (v : ℕ). queueOf queue (ahead (length queue) head 1) (len - 1) (set counts (unpackedEntry v .name) (getD counts (unpackedEntry v .name) 0 - 1)) []) (sym (f .word))
+
+  name-lt : name < 16
+  name-lt = omega arith
+
+  -- the slot of the front entry is free again
+  room-again : hasRoom (queueOf queue (ahead (length queue) head 1) (len - 1) (set counts name (getD counts name 0 - 1)) []) name ≡ true
+  room-again =
+      let l = f .limit in
+      let h = f .place in
+      let k = f .counted in
+      let q = f .slots in
+      let o = f .some in
+      let c : getD (set counts name (getD counts name 0 - 1)) name 0 ≡ getD counts name 0 - 1
+      = getD-set-same counts name _ 0 (let g = name-lt in let n = f .sixteen in omega arith) in
+      room (queueOf queue (ahead (length queue) head 1) (len - 1) (set counts name (getD counts name 0 - 1)) []) name
+      (inside (queueOf queue (ahead (length queue) head 1) (len - 1) (set counts name (getD counts name 0 - 1)) []) (f .slots) (mod-lt (head + 1) (omega arith))) (omega arith) name-lt (λ z. omega arith)
+
+  pushed : (p : Entry) → p .name ≡ name → pushIf p (popIf line) ≡ push p (pop line)
+  unfolding pushIf
+  pushed p n = ap (pushIf p) popped ∙ simp (ap (hasRoom (pop line)) n ∙ ap (λ (r : Machine). hasRoom r name) pop-is ∙ room-again)
+
+  pub gone-on : (next : ℕ) {at h v : ℕ} → at ≡ ahead (length queue) head len → h ≡ ahead (length queue) head 1
+      → v ≡ packedEntry (entry next (unpackedEntry w .thread) name)
+      → queueOf (set queue at v) h len counts [] ≡ pushIf (entry next (unpackedEntry w .thread) name) (popIf line)
+  unfolding push
+  gone-on next ea eh ev =
+      sym (pushed (entry next (unpackedEntry w .thread) name) refl ∙ ap (push (entry next (unpackedEntry w .thread) name)) pop-is
+      ∙ λ i. queueOf (set queue (sym (ea ∙ slot-is head len (length queue) (f .some)) i) (sym ev i)) (sym eh i) (longer i) (sym (lower-raise counts name (omega (arith, name-lt, f .sixteen)) (f .count)) i) [])
+    where
+      longer : len - 1 + 1 ≡ len
+      longer = omega (arith, f .some)
 
 module _ (m : Machine) (s : SoundHeader m) (e : SoundEntry (m .header) (front m)) (some : 0 < m .header .length) where
   -- the queue alone, and the index of the front entry's name
@@ -43,39 +107,33 @@ module _ (m : Machine) (s : SoundHeader m) (e : SoundEntry (m .header) (front m)
       let l = s .limit in
       omega arith
 
-  popped : popIf ring ≡ pop ring
-  unfolding popIf
-  popped = simp (inside ring slots-le (s .head))
-
-  -- where the slot of the front entry is free again
-  room-again : hasRoom (pop ring) who ≡ true
-  unfolding pop
-  room-again =
-      let l = s .limit in
-      let h = s .head in
-      let k = count-le-slots in
-      let q = slots-le in
-      let c : getD (set (m .header .counts) who (getD (m .header .counts) who 0 - 1)) who 0 ≡ getD (m .header .counts) who 0 - 1
-      = getD-set-same (m .header .counts) who _ 0 (let f = few in let n = s .shape .counts in omega arith) in
-      room (pop ring) who (inside (pop ring) slots-le (mod-lt (m .header .head + 1) (omega arith))) (omega arith) few (λ z. omega arith)
-
-  pushed : (p : Entry) → p .name ≡ who → pushIf p (popIf ring) ≡ push p (pop ring)
-  unfolding pushIf
-  pushed p n = ap (pushIf p) popped ∙ simp (ap (hasRoom (pop ring)) n ∙ room-again)
+  -- what going on asks of the front entry
+  pub front-is : Front (m .queue) (m .header .head) (m .header .length) (m .header .counts) (front m)
+  front-is =
+      record {
+        slots = slots-le;
+        place = s .head;
+        some = some;
+        limit = s .limit;
+        word = refl;
+        sixteen = s .shape .counts;
+        count = e .count;
+        counted = count-le-slots;
+      }
 
   -- an ended process pushes nothing
   pub ended-is : {core counts : List ℕ} {head len : ℕ} → queueOf (m .queue) head len counts [] ≡ popIf ring
       → turned (m .header) (m .header .steps + 1) core (m .queue) head len counts (m .header .threads) ≡ counted core (pop m)
   unfolding pop counted
   ended-is {core = core} q =
-      ap (λ (r : Machine). turned (m .header) (m .header .steps + 1) core (m .queue) (r .header .head) (r .header .length) (r .header .counts) (m .header .threads)) (q ∙ popped)
+      ap (λ (r : Machine). turned (m .header) (m .header .steps + 1) core (m .queue) (r .header .head) (r .header .length) (r .header .counts) (m .header .threads)) (q ∙ popped front-is)
 
   -- others push the next place
   pub goes-is : (p : Entry) → p .name ≡ who → {core queue counts : List ℕ} {head len : ℕ} → queueOf queue head len counts [] ≡ pushIf p (popIf ring)
       → turned (m .header) (m .header .steps + 1) core queue head len counts (m .header .threads) ≡ push p (counted core (pop m))
   unfolding push pop counted
   goes-is p n {core = core} q =
-      ap (λ (r : Machine). turned (m .header) (m .header .steps + 1) core (r .queue) (r .header .head) (r .header .length) (r .header .counts) (m .header .threads)) (q ∙ pushed p n)
+      ap (λ (r : Machine). turned (m .header) (m .header .steps + 1) core (r .queue) (r .header .head) (r .header .length) (r .header .counts) (m .header .threads)) (q ∙ pushed front-is p n)
 
   -- SPL: the child is dropped if the queue is then full
   module _ (p : Entry) (n : p .name ≡ who) (number : getD (m .header .threads) who 0 ≡ 4294967295 → ⊥) where
@@ -115,7 +173,7 @@ module _ (m : Machine) (s : SoundHeader m) (e : SoundEntry (m .header) (front m)
         ≡ cond (full (push p (counted core (pop m)))) (push p (counted core (pop m))) (started c (p .name) (push p (counted core (pop m))))
     unfolding push pop counted started numbered startIf
     splits-is c {core = core} q =
-        ap put (q ∙ ap (λ (r : Machine). startIf c (p .name) (threaded (m .header .threads) r)) (pushed p n)) ∙ ap (λ (i : ℕ). put (startIf c i both-pushed)) n
+        ap put (q ∙ ap (λ (r : Machine). startIf c (p .name) (threaded (m .header .threads) r)) (pushed front-is p n)) ∙ ap (λ (i : ℕ). put (startIf c i both-pushed)) n
         ∙ ap (λ (b : Bool). put (cond b (started c who both-pushed) both-pushed)) test-is
         ∙ either (full both-pushed)
         ∙ ap (λ (i : ℕ). cond (full (push p (counted core (pop m)))) (push p (counted core (pop m))) (started c i (push p (counted core (pop m))))) (sym n)

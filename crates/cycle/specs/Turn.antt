@@ -1,10 +1,24 @@
--- A queue with the next thread numbers beside it, and a machine put together from what an instruction changed.
+-- A queue with its front entry, with the next thread numbers beside it, and a machine put together from what an instruction changed.
 -- Assumes nothing.
-use Prim.Native.Nat.{ℕ}
+use Prim.Native.Nat.{ℕ, _<_, _≤_}
+use mathlib.Core.Path.{_≡_}
 use mathlib.Core.List.{List}
+use lib.ListN.{length, getD}
 use Rattle.machine.specs.declared.Header.{Header}
 use Rattle.machine.specs.State.{Machine}
+use Rattle.machine.specs.Queue.{unpackedEntry}
 use Rattle.process.specs.Parts.{queueOf}
+
+-- the word of the front entry of a queue, whose name is counted
+pub record Front (queue : List ℕ) (head len : ℕ) (counts : List ℕ) (w : ℕ) : Type 0 where
+  pub slots : length queue ≤ 65535
+  pub place : head < length queue
+  pub some : 0 < len
+  pub limit : len ≤ length queue
+  pub word : w ≡ getD queue head 0
+  pub sixteen : length counts ≡ 16
+  pub count : 0 < getD counts (unpackedEntry w .name) 0
+  pub counted : getD counts (unpackedEntry w .name) 0 ≤ length queue
 
 abbrev pub threaded : List ℕ → Machine → Machine
 threaded threads m = queueOf (m .queue) (m .header .head) (m .header .length) (m .header .counts) threads

@@ -13,7 +13,6 @@ use execute::Executed;
 use execute::execute;
 use load_file::offset::Absolute;
 use load_file::offset::sum;
-use machine::Entry;
 use process::entry::unpack;
 use process::queue::Ring;
 use process::queue::pop;
@@ -91,12 +90,7 @@ pub fn step_once<'a>(
         Executed::Unsound => refused(Answer::UnsoundRecord, ring, taken),
         Executed::PrivateMemory => refused(Answer::PrivateMemory, ring, taken),
         Executed::Goes(place, writes) => {
-            let next = Entry {
-                place: Absolute(place),
-                thread: e.thread,
-                name: e.name,
-            };
-            let after = go_on(queue, ring, counts, next);
+            let after = go_on(queue, ring, counts, w, Absolute(place));
             Stepped {
                 answer: Answer::Done,
                 writes,
@@ -107,12 +101,15 @@ pub fn step_once<'a>(
         }
         Executed::Splits(child, writes) => {
             let on = sum(e.place.0, 1, size);
-            let next = Entry {
-                place: Absolute(on),
-                thread: e.thread,
-                name: e.name,
-            };
-            let after = split(queue, ring, counts, threads, next, Absolute(child));
+            let after = split(
+                queue,
+                ring,
+                counts,
+                threads,
+                w,
+                Absolute(on),
+                Absolute(child),
+            );
             Stepped {
                 answer: Answer::Done,
                 writes,

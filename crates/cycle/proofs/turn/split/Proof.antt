@@ -3,10 +3,15 @@
 use borrow.Author.Needs.{needs}
 use Rattle.cycle.proofs.turn.split.Statement.{statement}
 use Rattle.cycle.proofs.turn.split.Tie as tie
-use mathlib.Core.Path.{ap, _∙_}
+use mathlib.Core.Path.{ap, ap₂, _∙_}
+use Prim.Native.Nat.{ℕ}
+use Rattle.machine.specs.declared.Entry.{Entry}
 use Rattle.machine.specs.State.{Machine}
 use Rattle.process.specs.Parts.{startIf}
 use Rattle.cycle.specs.Turn.{threaded}
+
+unpack-requires : tie.Need-unpack-requires
+unpack-requires c κs = search needs
 
 go-on-requires : tie.Need-go-on-requires
 go-on-requires c κs = search needs
@@ -18,7 +23,10 @@ same-length : tie.Need-same-length
 same-length c = search needs
 
 returns : tie.Need-returns
-returns c = c .before .before .start .ensures ∙ ap (λ (q : Machine). startIf (c .before .before .before .before .before .before .before .before .before .before .before .before .args .child .0) (c .before .before .before .before .before .before .before .before .before .before .before .before .args .next .name) (threaded (c .before .before .before .before .before .before .before .before .before .before .before .before .args .threads .now) q)) (c .before .before .before .before .before .before .before .before .go-on .ensures)
+returns c =
+    c .before .before .start .ensures
+    ∙ ap₂ (λ (i : ℕ) (q : Machine). startIf (c .before .before .before .before .before .before .before .before .before .before .before .before .before .args .child .0) i (threaded (c .before .before .before .before .before .before .before .before .before .before .before .before .before .args .threads .now) q))
+    (ap (λ (e : Entry). e .name) (c .before .before .before .before .before .before .before .before .before .before .before .unpack .ensures)) (c .before .before .before .before .before .before .before .before .go-on .ensures)
 
 pub split-spec : {M : Type 1} → statement M
-split-spec = tie.close (tie.spec go-on-requires start-requires same-length returns)
+split-spec = tie.close (tie.spec unpack-requires go-on-requires start-requires same-length returns)
