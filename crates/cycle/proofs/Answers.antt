@@ -30,7 +30,8 @@ use Rattle.execute.specs.Instruction.{placed, soundHere, private, soundRead, an
 use Rattle.process.specs.declared.queue.Ring.{Ring}
 use Rattle.process.specs.Parts.{queueOf, popIf, pushIf, startIf}
 use Rattle.cycle.specs.Turn.{threaded, turned}
-use Rattle.cycle.specs.Given.{Given, given, givenBy, Ready}
+use Rattle.cycle.specs.declared.stepping.Stepped.{Stepped}
+use Rattle.cycle.specs.Given.{Given, given, givenBy, Ready, stepped}
 use Rattle.cycle.proofs.Turns.{ended-is, goes-is, splits-is}
 
 -- the refusals that are left after the front entry: 9 (executed cell), 10, 9 (other cells read)
@@ -222,10 +223,10 @@ module _ (m : Machine) (sound : soundHeader m ≡ true) (shape : Shape (m .heade
                 let told = nextTold x (getD (n .header .counts) (e .name) 0) (pc m) in
                 record { told = gives (told .number) (told .value); writes = w; steps = 1; machine = queued x e n .machine }
 
-            stepped : {x : Next} {w : ℕ} {n : Machine} → effectAt (m .header .size) (m .core) (pc m) .next ≡ x → writesAt (m .header .size) (m .core) (pc m) ≡ w
+            executed-step : {x : Next} {w : ℕ} {n : Machine} → effectAt (m .header .size) (m .core) (pc m) .next ≡ x → writesAt (m .header .size) (m .core) (pc m) ≡ w
                 → n ≡ counted (coreAt (m .header .size) (m .core) (pc m)) (pop m) → by-next x w n ≡ givenBy (step m)
             unfolding executed effect stepWrites spec.coreAfter by-next
-            stepped {x = x} ex ew en =
+            executed-step {x = x} ex ew en =
                 ap₂ (λ (k : ℕ) (n : Machine). by-next x k n) (sym ew) en
                 ∙ ap (λ (y : Next). by-next y (writesAt (m .header .size) (m .core) (pc m)) (counted (coreAt (m .header .size) (m .core) (pc m)) (pop m))) (sym ex)
                 ∙ step-is v
@@ -248,7 +249,7 @@ module _ (m : Machine) (sound : soundHeader m ≡ true) (shape : Shape (m .heade
                 let v = ap verdictOf x in
                 let g = goes-of _ _ p w (answer-is v x) in
                 ap (given Done w 1) (goes-is m here at-front not-empty (entry p (popped m .thread) (popped m .name)) refl q)
-                ∙ stepped v (g .0) (g .1) (ap (λ (k : List ℕ). counted k (pop m)) (core-is v c))
+                ∙ executed-step v (g .0) (g .1) (ap (λ (k : List ℕ). counted k (pop m)) (core-is v c))
 
             pub splits-step : (child w : ℕ) {next : ℕ} {queue counts threads : List ℕ} {head len : ℕ} → executedAt (m .header .size) (m .core) (pc m) ≡ is.Splits child w
                 → next ≡ ahead (m .header .size) (pc m) 1
@@ -263,7 +264,7 @@ module _ (m : Machine) (sound : soundHeader m ≡ true) (shape : Shape (m .heade
                 ap (given Done w 1) (splits-is m here at-front not-empty (entry next (popped m .thread) (popped m .name)) refl unworn child q)
                 ∙ ap₂ split e (core-is v c)
                 ∙ either (first-pushed (g .0) (coreAt (m .header .size) (m .core) (pc m))) (started child (popped m .name) (first-pushed (g .0) (coreAt (m .header .size) (m .core) (pc m)))) (full (first-pushed (g .0) (coreAt (m .header .size) (m .core) (pc m))))
-                ∙ stepped v (g .1 .0) (g .1 .1) refl
+                ∙ executed-step v (g .1 .0) (g .1 .1) refl
               where
                 first-pushed : ℕ → List ℕ → Machine
                 first-pushed p k = push (entry p (popped m .thread) (popped m .name)) (counted k (pop m))
@@ -285,7 +286,7 @@ module _ (m : Machine) (sound : soundHeader m ≡ true) (shape : Shape (m .heade
             unfolding by-next
             ended-step x w answer {counts = cs} {head = hd} {len = ln} v g q t =
                 ap (λ (k : Told). record { told = k; writes = w; steps = 1; machine = turned (m .header) (m .header .steps + 1) core (m .queue) hd ln cs (m .header .threads) }) t
-                ∙ stepped v (g .0) (g .1) (ended-is m here at-front not-empty q ∙ ap (λ (k : List ℕ). counted k (pop m)) (core-is v c))
+                ∙ executed-step v (g .0) (g .1) (ended-is m here at-front not-empty q ∙ ap (λ (k : List ℕ). counted k (pop m)) (core-is v c))
 
             pub dat-step : (w : ℕ) (answer : Answer) {counts : List ℕ} {head len : ℕ} → executedAt (m .header .size) (m .core) (pc m) ≡ is.Dat w
                 → queueOf (m .queue) head len counts [] ≡ popIf (queueOf (m .queue) (m .header .head) (m .header .length) (m .header .counts) [])
@@ -303,11 +304,7 @@ module _ (m : Machine) (sound : soundHeader m ≡ true) (shape : Shape (m .heade
 pub shape-of : (m : Machine) → Ready m → Shape (m .header)
 shape-of m r = record { names = r .names; lengths = r .lengths; counts = r .counts; threads = r .threads }
 
--- a refusal, from what `refused` gives back
-pub refusing : (build : ℕ → ℕ → ℕ → Machine) {answer A : Answer} {w n t u : ℕ} {r q : Ring} {X : Given}
-    → (answer ≡ A) × (w ≡ 0) × (n ≡ 0) × (r ≡ q) × (t ≡ u) → given A 0 0 (build (q .head) (q .length) u) ≡ X → given answer w n (build (r .head) (r .length) t) ≡ X
-refusing build {A = A} {w = w} {n = n} {t = t} {u = u} {r = r} {q = q} f e =
-    ap (λ (x : Answer). given x w n (build (r .head) (r .length) t)) (f .0)
-    ∙ ap₂ (λ (i j : ℕ). given A i j (build (r .head) (r .length) t)) (f .1) (f .2)
-    ∙ ap₂ (λ (k : Ring) (j : ℕ). given A 0 0 (build (k .head) (k .length) j)) (f .3) (f .4)
-    ∙ e
+-- what the code gives back, put together with the parts that it leaves
+pub giving : (build : ℕ → ℕ → ℕ → Machine) {r : Stepped} {answer : Answer} {w n t : ℕ} {q : Ring} {X : Given} → r ≡ stepped answer w n q t
+    → given answer w n (build (q .head) (q .length) t) ≡ X → given (r .answer) (r .writes) (r .steps) (build (r .head) (r .length) (r .taken)) ≡ X
+giving build e x = ap (λ (s : Stepped). given (s .answer) (s .writes) (s .steps) (build (s .head) (s .length) (s .taken))) e ∙ x

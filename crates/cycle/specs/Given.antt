@@ -9,6 +9,8 @@ use Rattle.answer.specs.declared.Answer.{Answer}
 use Rattle.answer.specs.Numbers.{Told, told}
 use Rattle.machine.specs.State.{Machine, Outcome, toldBy}
 use Rattle.machine.specs.Soundness.{soundHeader}
+use Rattle.process.specs.declared.queue.Ring.{Ring}
+use Rattle.cycle.specs.declared.stepping.Stepped.{Stepped}
 
 -- the answer, the writes and the steps that it carries, and the record afterwards
 pub record Given : Type 0 where
@@ -23,6 +25,11 @@ given answer writes steps m = record { told = told answer; writes = writes; step
 -- the same of an outcome
 abbrev pub givenBy : Outcome → Given
 givenBy o = record { told = toldBy o; writes = o .writes; steps = o .steps; machine = o .machine }
+
+-- the same as the code has it, with the ring and the steps taken afterwards
+abbrev pub stepped : Answer → ℕ → ℕ → Ring → ℕ → Stepped
+stepped answer writes steps ring taken =
+    record { answer = answer; writes = writes; steps = steps; head = ring .head; length = ring .length; taken = taken }
 
 -- a machine from the parts that a step is lent
 abbrev pub parts : List ℕ → List ℕ → ℕ → ℕ → ℕ → ℕ → ℕ → List ℕ → List ℕ → List ℕ → List ℕ → Machine

@@ -62,8 +62,8 @@ pub fn run_loop<'a>(
             Ring { head, length },
             done,
         );
-        head = s.ring.head;
-        length = s.ring.length;
+        head = s.head;
+        length = s.length;
         done = s.taken;
         writes = writes + s.writes as u64;
         let answer = s.answer;

@@ -5,7 +5,7 @@ ghost use Rattle.answer.specs.Numbers.{told, gives};
 ghost use mathlib.Core.Bool.{cond};
 ghost use lib.Dec.{eqb};
 ghost use Rattle.machine.specs.Step as spec;
-ghost use Rattle.cycle.specs.Given.{given, givenBy, Ready, parts};
+ghost use Rattle.cycle.specs.Given.{given, givenBy, Ready, parts, stepped};
 use crate::turn::go_on;
 use crate::turn::split;
 use answer::Answer;
@@ -18,24 +18,40 @@ use process::queue::Ring;
 use process::queue::pop;
 use process::soundness::sound_front;
 
-// What a step answers, with its writes and steps, and the ring and the steps taken afterwards.
+// What a step answers, with its writes and steps, and the queue's head and length and the steps taken afterwards.
 pub struct Stepped {
     pub answer: Answer,
     pub writes: u32,
     pub steps: u32,
-    pub ring: Ring,
+    pub head: u32,
+    pub length: u32,
     pub taken: u32,
 }
 
 // A refusal: nothing has changed.
 fn refused(answer: Answer, ring: Ring, taken: u32) -> Stepped
-    ensures { λ r. ⌜ (r .answer ≡ answer) × (r .writes ≡ 0) × (r .steps ≡ 0) × (r .ring ≡ ring) × (r .taken ≡ taken) ⌝ }
+    ensures { λ r. ⌜ r ≡ stepped answer 0 0 ring taken ⌝ }
 {
     Stepped {
         answer,
         writes: 0,
         steps: 0,
-        ring,
+        head: ring.head,
+        length: ring.length,
+        taken,
+    }
+}
+
+// A step that was played.
+fn played(answer: Answer, writes: u32, ring: Ring, taken: u32) -> Stepped
+    ensures { λ r. ⌜ r ≡ stepped answer writes 1 ring taken ⌝ }
+{
+    Stepped {
+        answer,
+        writes,
+        steps: 1,
+        head: ring.head,
+        length: ring.length,
         taken,
     }
 }
@@ -65,7 +81,7 @@ pub fn step_once<'a>(
 ) -> Stepped
     requires { ⌜ Ready (parts (now core) (now queue) size (ring .head) (ring .length) taken held (now names) (now lengths) (now counts) (now threads)) ⌝ }
     ensures { λ r. ⌜ given (r .answer) (r .writes) (r .steps)
-        (parts (now (core .exit)) (now (queue .exit)) size (r .ring .head) (r .ring .length) (r .taken) held (now (names .entry)) (now (lengths .entry)) (now (counts .exit)) (now (threads .exit)))
+        (parts (now (core .exit)) (now (queue .exit)) size (r .head) (r .length) (r .taken) held (now (names .entry)) (now (lengths .entry)) (now (counts .exit)) (now (threads .exit)))
         ≡ givenBy (spec.step (parts (now (core .entry)) (now (queue .entry)) size (ring .head) (ring .length) taken held (now (names .entry)) (now (lengths .entry)) (now (counts .entry)) (now (threads .entry)))) ⌝ }
 {
     if ring.length == 0 {
@@ -91,13 +107,7 @@ pub fn step_once<'a>(
         Executed::PrivateMemory => refused(Answer::PrivateMemory, ring, taken),
         Executed::Goes(place, writes) => {
             let after = go_on(queue, ring, counts, w, Absolute(place));
-            Stepped {
-                answer: Answer::Done,
-                writes,
-                steps: 1,
-                ring: after,
-                taken: more,
-            }
+            played(Answer::Done, writes, after, more)
         }
         Executed::Splits(child, writes) => {
             let on = sum(e.place.0, 1, size);
@@ -110,35 +120,17 @@ pub fn step_once<'a>(
                 Absolute(on),
                 Absolute(child),
             );
-            Stepped {
-                answer: Answer::Done,
-                writes,
-                steps: 1,
-                ring: after,
-                taken: more,
-            }
+            played(Answer::Done, writes, after, more)
         }
         Executed::Dat(writes) => {
             let after = pop(queue, ring, counts);
             let answer = ending(Answer::ExecuteDat(e.place.0), counts[who]);
-            Stepped {
-                answer,
-                writes,
-                steps: 1,
-                ring: after,
-                taken: more,
-            }
+            played(answer, writes, after, more)
         }
         Executed::DivideByZero(writes) => {
             let after = pop(queue, ring, counts);
             let answer = ending(Answer::DivideByZero, counts[who]);
-            Stepped {
-                answer,
-                writes,
-                steps: 1,
-                ring: after,
-                taken: more,
-            }
+            played(answer, writes, after, more)
         }
     }
 }
