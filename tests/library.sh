@@ -1,6 +1,6 @@
 #!/bin/sh
-# Builds the static library and both examples over it, and compares what they print with bin/play: for every file in examples/ and for a few bad ones.
-# Run as: tests/library.sh. Needs rt, gcc, g++ and cargo; no network.
+# Builds the static library and both examples over it, and compares what they print: with bin/play for every file in examples/ and for a few bad ones, and with what the program plays must write for each of its files.
+# Run as: tests/library.sh. Needs rt, gcc, g++, cargo and python3; no network.
 root=$(dirname -- "$(dirname -- "$(readlink -f -- "$0")")")
 work=$(mktemp -d) || exit 1
 trap 'rm -rf "$work"' EXIT
@@ -44,4 +44,12 @@ for file in examples/* "$work"/empty "$work"/largest "$work"/longer "$work"/size
     done
 done
 printf '%s compared with bin/play, %s differ\n' "$compared" "$failed"
+for program in "$work/play-c" "$work/play-c-checked" "$work/cargo/release/play"; do
+    if python3 tests/each.py "$program" <crates/plays/stdin >"$work/all" && cmp -s crates/plays/stdout "$work/all"; then
+        printf '%s writes what plays writes\n' "${program##*/}"
+    else
+        failed=$((failed + 1))
+        printf '%s differs from plays\n' "${program##*/}"
+    fi
+done
 [ "$failed" -eq 0 ]
