@@ -1,3 +1,5 @@
 pub mod Numbers
 pub mod Thin
 pub mod Answers
+pub mod Played
+pub mod Loaded
