@@ -12,23 +12,26 @@ use borrow.Author.Tests.{ne-eqb}
 use Rattle.laws.specs.Lists.{oneIf, tally, same}
 use Rattle.laws.proofs.Tests.{and-true}
 use Rattle.program.specs.Program.{instructions, cells}
-use Rattle.program.specs.Metadata.{called}
+use Rattle.metadata.specs.Metadata.{called}
 use Rattle.program.proofs.Program.{cells-le}
 use Rattle.machine.specs.declared.Ceiling.{Ceiling}
-use Rattle.machine.specs.State.{Machine, Outcome, accepted, refusal, settle}
+use Rattle.machine.specs.declared.Rules.{Rules}
+use Rattle.machine.specs.State.{Machine, Outcome, joined, accepted, refusal, settle}
 use Rattle.machine.specs.Names.{isNew}
 use Rattle.machine.specs.Queue.{entries, nameOf, entriesOf, front}
 use Rattle.machine.specs.Soundness.{soundHeader}
-use Rattle.machine.specs.Load.{freshMachine, fresh, loaded, load}
+use Rattle.machine.specs.Fresh.{freshMachine, fresh}
+use Rattle.machine.specs.Load.{loaded, load}
 use Rattle.machine.specs.Step.{coreAfter, executed, step, executes}
-use Rattle.machine.specs.Run.{joined, plays, ceilingOf, run}
+use Rattle.machine.specs.Run.{plays, ceilingOf, run}
 use Rattle.machine.proofs.Step.{step-writes-three, Executed, is-executed, step-by-cases, step-some}
-use Rattle.machine.proofs.Load.{fresh-accepted, fresh-lengths, Loaded, loadable, is-loaded, load-by-cases}
+use Rattle.machine.proofs.Fresh.{fresh-accepted, fresh-lengths}
+use Rattle.machine.proofs.Load.{Loaded, loadable, is-loaded, load-by-cases}
 use Rattle.machine.proofs.ByName.{Stepped, stepped, Begun, begun}
 use Rattle.machine.proofs.SoundMachine.{SoundMachine, sound-ready, step-keeps, load-keeps, fresh-sound}
 use Rattle.account.specs.Calls as Calls
 use Rattle.account.specs.Calls.{Call, Load, Step, Run, outcome, left, reported, Event, logStep, logSteps, logRun, logCall, logged}
-use Rattle.account.specs.Account.{Account, loadOf, childOf, endingOf, sinceEnding, differing}
+use Rattle.account.specs.Account.{Account, EveryAccount, loadOf, childOf, endingOf, sinceEnding, differing}
 use Rattle.account.proofs.Cells.{step-cells, placed-cells, fresh-cells}
 
 -- what every call keeps
@@ -120,7 +123,7 @@ after-load m t body place o w log i sound l b =
         writes = let a = i .account .writes in omega arith;
         bound = let a = i .account .bound in let c = l .steps in let d = l .writes in omega arith;
         cells = let a = i .account .cells in let c = placed-more in omega arith;
-        names = λ n. b .names n ∙ still-new (isNew (m .header) n) (same t n) (tally (loadOf n) log) (i .account .names n);
+        names = λ n. b .names n ∙ still-new (isNew (m .header .names) n) (same t n) (tally (loadOf n) log) (i .account .names n);
         idle = λ n z. let a = b .entries n in let c = i .account .idle n (omega arith) in omega arith;
         others = λ n z. let a = b .entries n in let c = i .account .others n (omega arith) in omega arith;
       };
@@ -134,8 +137,8 @@ after-load m t body place o w log i sound l b =
 
     placed-more : differing (o .machine .core) ≤ differing (m .core) + o .writes
     placed-more =
-        let p = placed-cells (cells (m .header .size) body) (m .core) place in
-        let q : length (cells (m .header .size) body) ≤ instructions body = cells-le (m .header .size) body in
+        let p = placed-cells (cells (m .header .rules .size) body) (m .core) place in
+        let q : length (cells (m .header .rules .size) body) ≤ instructions body = cells-le (m .header .rules .size) body in
         rw (l .core, l .writes) (omega arith)
 
 -- a refusal, and each call
@@ -211,9 +214,9 @@ calls-kept (c ∷ cs) m w log i =
     (calls-kept cs (outcome c m .machine) (w + outcome c m .writes) (logCall c m log) (call-kept c m w log i))
 
 -- the machine just made
-fresh-account : (size : ℕ) (core queue : List ℕ) → Account (freshMachine size core queue) 0 []
+fresh-account : (rules : Rules) (core queue : List ℕ) → Account (freshMachine rules core queue) 0 []
 unfolding entries
-fresh-account size core queue =
+fresh-account rules core queue =
     record {
       entries = λ n. refl;
       counts = λ n. refl;
@@ -226,18 +229,12 @@ fresh-account size core queue =
       others = λ n z. refl;
     }
 
--- DEMAND 3. Fresh was lent a core and a queue memory and answered 0; 01's machine keeps a record of its own, of the same lengths, whatever
--- was in it. After every list of calls, refused ones included, the account holds of the program's record, of the writes that the calls
--- reported, and of what 01's machine tells.
-pub account : (size : ℕ) (core queue : List ℕ) → fresh size core queue .number ≡ 0
-    → (ownCore ownQueue : List ℕ) → length ownCore ≡ length core → length ownQueue ≡ length queue
-    → (calls : List Call)
-    → Account (left calls (fresh size core queue .machine)) (reported calls (fresh size core queue .machine))
-    (logged calls (fresh size ownCore ownQueue .machine) [])
-account size core queue ok ownCore ownQueue a b calls =
-    rw (fresh-lengths size core queue ownCore ownQueue a b ok)
-    (rw (zero-add _) at (calls-kept calls (fresh size core queue .machine) 0 [] start .account))
+-- DEMAND 3
+pub account : EveryAccount
+account rules core queue ok ownCore ownQueue a b calls =
+    rw (fresh-lengths rules core queue ownCore ownQueue a b ok)
+    (rw (zero-add _) at (calls-kept calls (fresh rules core queue .machine) 0 [] start .account))
   where
-    start : Invariant (fresh size core queue .machine) 0 []
+    start : Invariant (fresh rules core queue .machine) 0 []
     start =
-        record { sound = fresh-sound size core queue ok; account = rw (fresh-accepted size core queue ok .1) (fresh-account size core queue) }
+        record { sound = fresh-sound rules core queue ok; account = rw (fresh-accepted rules core queue ok .1) (fresh-account rules core queue) }

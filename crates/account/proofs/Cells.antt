@@ -9,43 +9,43 @@ use native.Mathlib.Omega.{arith}
 use lib.Dec.{eqb}
 use lib.ListN.{length, getD, set, replicate}
 use Rattle.laws.proofs.Tally.{tally-set}
-use Rattle.load_file.specs.declared.Cell.{Cell}
-use Rattle.load_file.specs.Types.{Field}
-use Rattle.load_file.specs.Offset.{ahead}
-use Rattle.load_file.specs.Cells.{packed, freshCell}
+use Rattle.cell.specs.declared.Cell.{Cell}
+use Rattle.types.specs.Types.{Field}
+use Rattle.offset.specs.Offset.{ahead}
+use Rattle.cell.specs.Cells.{packed, freshCell}
 use Rattle.machine.specs.State.{Machine}
 use Rattle.machine.specs.Load.{placed}
-use Rattle.machine.specs.Pointers.{Turn, keeps, lowers, raises, turns, less, more, changed, before, after, turnWrites, operand}
-use Rattle.machine.specs.Instruction.{storeTo, storeWrites}
+use Rattle.machine.specs.Pointers.{Shift, keeps, lowers, raises, shifts, less, more, changed, before, after, shifted, Site, operand}
+use Rattle.machine.specs.Instruction.{storeTo, storedAt}
 use Rattle.machine.specs.Step.{operandA, operandB, effect, coreAfter, stepWrites}
+use Rattle.machine.proofs.Step.{step-writes}
 use Rattle.account.specs.Account.{differing}
 
 set-cells : (core : List ℕ) (i w : ℕ) → differing (set core i w) ≤ suc (differing core)
 set-cells core i w = tally-set (λ w. not (eqb w freshCell)) core i w
 
-turn-cells : (t : Turn) (size : ℕ) (core : List ℕ) (l : ℕ) (f : Field) (x : ℕ)
-    → differing (after t size (before t size core l f x) l f x) ≤ differing core + turnWrites t
-turn-cells keeps size core l f x = omega arith
-turn-cells lowers size core l f x = let h : differing (changed core l f (less size x)) ≤ suc (differing core) = set-cells core l _ in omega arith
-turn-cells raises size core l f x = let h : differing (changed core l f (more size x)) ≤ suc (differing core) = set-cells core l _ in omega arith
+shift-cells : (t : Shift) (size : ℕ) (core : List ℕ) (l : ℕ) (f : Field) (x : ℕ)
+    → differing (after t size (before t size core l f x) l f x) ≤ differing core + length (shifted t l)
+shift-cells keeps size core l f x = omega arith
+shift-cells lowers size core l f x = let h : differing (changed core l f (less size x)) ≤ suc (differing core) = set-cells core l _ in omega arith
+shift-cells raises size core l f x = let h : differing (changed core l f (more size x)) ≤ suc (differing core) = set-cells core l _ in omega arith
 
-operand-cells : (size : ℕ) (core : List ℕ) (pc mode n : ℕ)
-    → differing (operand size core pc mode n .core) ≤ differing core + operand size core pc mode n .writes
+operand-cells : (s : Site) (core : List ℕ) (mode n : ℕ)
+    → differing (operand s core mode n .core) ≤ differing core + length (operand s core mode n .written)
 unfolding operand
-operand-cells size core pc mode n = turn-cells (getD turns mode keeps) size core (ahead size pc n) _ _
+operand-cells s core mode n = shift-cells (getD shifts mode keeps) (s .rules .size) core (ahead (s .rules .size) (s .pc) n) _ _
 
-store-cells : (c : Option Cell) (core : List ℕ) (p : ℕ) → differing (storeTo c core p) ≤ differing core + storeWrites c
+store-cells : (c : Option Cell) (core : List ℕ) (p : ℕ) → differing (storeTo c core p) ≤ differing core + length (storedAt c p)
 store-cells none core p = omega arith
 store-cells (some c) core p = let h = set-cells core p (packed c) in omega arith
 
 pub step-cells : (m : Machine) → differing (coreAfter m) ≤ differing (m .core) + stepWrites m
-unfolding coreAfter stepWrites effect
+unfolding coreAfter effect
 step-cells m =
-    let a : differing (operandA m .core) ≤ differing (m .core) + operandA m .writes = operand-cells _ _ _ _ _ in
-    let b : differing (operandB m .core) ≤ differing (operandA m .core) + operandB m .writes = operand-cells _ _ _ _ _ in
-    let c : differing (storeTo (effect m .cell) (operandB m .core) (operandB m .pointer)) ≤ differing (operandB m .core) + storeWrites (effect m .cell)
-    = store-cells (effect m .cell) (operandB m .core) (operandB m .pointer) in
-    omega arith
+    let a : differing (operandA m .core) ≤ differing (m .core) + length (operandA m .written) = operand-cells _ _ _ _ in
+    let b : differing (operandB m .core) ≤ differing (operandA m .core) + length (operandB m .written) = operand-cells _ _ _ _ in
+    let c = store-cells (effect m .cell) (operandB m .core) (operandB m .write) in
+    omega (arith, step-writes m)
 
 pub placed-cells : (ws core : List ℕ) (p : ℕ) → differing (placed core p ws) ≤ differing core + length ws
 placed-cells [] core p = omega arith

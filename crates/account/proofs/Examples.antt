@@ -5,21 +5,22 @@ use mathlib.Core.Path.{_≡_, refl}
 use mathlib.Core.List.{List, [], _∷_, _++_}
 use lib.ListN.{replicate}
 use Rattle.laws.specs.Lists.{tally}
-use Rattle.load_file.specs.Cells.{soundWord}
-use Rattle.load_file.specs.Defaults.{unnamed}
-use Rattle.load_file.specs.Opcode.{DAT, JMP, SPL}
-use Rattle.load_file.specs.Mode.{Direct, PreDecIndirectB}
+use Rattle.cell.specs.Cells.{soundWord}
+use Rattle.types.specs.Defaults.{unnamed}
+use Rattle.types.specs.Opcode.{DAT, JMP, SPL}
+use Rattle.types.specs.Mode.{Direct, PreDecIndirectB}
 use Rattle.program.specs.Program.{lawful, lowestFault, cells}
-use Rattle.program.specs.Metadata.{called}
+use Rattle.metadata.specs.Metadata.{called}
 use Rattle.machine.specs.declared.Ceiling.the-variants.{Steps}
-use Rattle.machine.specs.State.{Machine}
+use Rattle.machine.specs.State.{ofSize, Machine}
 use Rattle.machine.specs.Names.{countOf, register, numbered}
 use Rattle.machine.specs.Queue.{entries, entriesOf, pop, push, started}
 use Rattle.machine.specs.Soundness.{soundHeader, soundEntry}
-use Rattle.machine.specs.Load.{fresh, loaded, load}
+use Rattle.machine.specs.Fresh.{fresh}
+use Rattle.machine.specs.Load.{loaded, load}
 use Rattle.machine.specs.Pointers.{operand}
 use Rattle.machine.specs.Execution.{effectOf}
-use Rattle.machine.specs.Step.{effect, coreAfter, stepWrites, counted, executed, step}
+use Rattle.machine.specs.Step.{effect, coreAfter, stepWritten, counted, executed, step}
 use Rattle.machine.specs.Run.{run}
 use Rattle.machine.specs.Battles.{bytes, datum}
 use Rattle.account.specs.Calls as Calls
@@ -28,7 +29,7 @@ use Rattle.account.specs.Account.{endingOf}
 
 -- M 8, 4 queue entries
 abbrev start : Machine
-start = fresh 8 (replicate 8 7) (replicate 4 9) .machine
+start = fresh (ofSize 8) (replicate 8 7) (replicate 4 9) .machine
 
 -- every unnamed warrior is called Warrior0
 abbrev Warrior0 : List ℕ
@@ -43,7 +44,7 @@ pub unnamed-pair : (countOf (left unnamedPair start .header) Warrior0 ≡ 1)
     × (logged unnamedPair start []
     ≡ Calls.executed Warrior0 1 0 ∷ Calls.executed Warrior0 0 0 ∷ Calls.loaded Warrior0 1 1 ∷ Calls.loaded Warrior0 1 1 ∷ [])
     × (tally (endingOf Warrior0) (logged unnamedPair start []) ≡ 1)
-unfolding soundWord lawful lowestFault cells register numbered entries pop push started soundHeader soundEntry fresh loaded load operand effectOf effect coreAfter stepWrites counted executed step
+unfolding soundWord lawful lowestFault cells register numbered entries pop push started soundHeader soundEntry fresh loaded load operand effectOf effect coreAfter stepWritten counted executed step
 unnamed-pair = (refl, refl, refl, refl)
 
 -- SPL $2, DAT, DAT <1,$0: a refused load, a step, a run to the last ending and a step on an empty queue
@@ -58,5 +59,5 @@ splitting =
 
 splitting-log : logged splitting start []
     ≡ Calls.executed Warrior0 0 1 ∷ Calls.executed Warrior0 0 0 ∷ Calls.executed Warrior0 2 0 ∷ Calls.loaded Warrior0 3 3 ∷ []
-unfolding soundWord lawful lowestFault cells register numbered entries pop push started soundHeader soundEntry fresh loaded load operand effectOf effect coreAfter stepWrites counted executed step run
+unfolding soundWord lawful lowestFault cells register numbered entries pop push started soundHeader soundEntry fresh loaded load operand effectOf effect coreAfter stepWritten counted executed step run
 splitting-log = refl

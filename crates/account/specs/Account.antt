@@ -5,12 +5,15 @@ use mathlib.Core.Path.{_≡_}
 use mathlib.Core.Bool.{Bool, true, false, cond, not, _&&_}
 use mathlib.Core.List.{List, [], _∷_, map}
 use lib.Dec.{eqb}
+use lib.ListN.{length}
 use Rattle.laws.specs.Lists.{oneIf, tally, total, same}
-use Rattle.load_file.specs.Cells.{freshCell}
+use Rattle.cell.specs.Cells.{freshCell}
+use Rattle.machine.specs.declared.Rules.{Rules}
 use Rattle.machine.specs.State.{Machine}
 use Rattle.machine.specs.Names.{isNew, countOf}
 use Rattle.machine.specs.Queue.{entriesOf}
-use Rattle.account.specs.Calls.{Event, loaded, executed}
+use Rattle.machine.specs.Fresh.{fresh}
+use Rattle.account.specs.Calls.{Call, left, reported, Event, loaded, executed, logged}
 
 -- an accepted load of n
 abbrev pub loadOf : List ℕ → Event → Bool
@@ -71,6 +74,17 @@ pub record Account (m : Machine) (w : ℕ) (log : List Event) : Type 0 where
   -- A name without entries has executed nothing since its last ending, or ever if it has none
   pub idle : (n : List ℕ) → entriesOf m n ≡ 0 → sinceEnding n log ≡ 0
   -- Names are those of accepted calls (01): the record holds a name exactly if an accepted load has it
-  pub names : (n : List ℕ) → isNew (m .header) n ≡ eqb (tally (loadOf n) log) 0
+  pub names : (n : List ℕ) → isNew (m .header .names) n ≡ eqb (tally (loadOf n) log) 0
   -- no other has entries (01)
   pub others : (n : List ℕ) → tally (loadOf n) log ≡ 0 → entriesOf m n ≡ 0
+
+-- DEMAND 3. Fresh was lent a core and a queue memory and answered 0; 01's machine keeps a record of its own, of the same lengths, whatever
+-- was in it. After every list of calls, refused ones included, the account holds of the program's record, of the writes that the calls
+-- reported, and of what 01's machine tells
+abbrev pub EveryAccount : Type 0
+EveryAccount =
+    (rules : Rules) (core queue : List ℕ) → fresh rules core queue .number ≡ 0
+    → (ownCore ownQueue : List ℕ) → length ownCore ≡ length core → length ownQueue ≡ length queue
+    → (calls : List Call)
+    → Account (left calls (fresh rules core queue .machine)) (reported calls (fresh rules core queue .machine))
+    (logged calls (fresh rules ownCore ownQueue .machine) [])

@@ -5,7 +5,7 @@ use mathlib.Core.Bool.{cond}
 use mathlib.Core.List.{List, [], _∷_}
 use lib.Dec.{eqb}
 use Rattle.program.specs.Program.{instructions}
-use Rattle.program.specs.Metadata.{called}
+use Rattle.metadata.specs.Metadata.{called}
 use Rattle.machine.specs.declared.Ceiling.{Ceiling}
 use Rattle.machine.specs.State.{Machine, Outcome}
 use Rattle.machine.specs.Queue.{front, nameOf}
@@ -41,9 +41,9 @@ pub data Event : Type 0 where
   loaded : (name : List ℕ) (instructions writes : ℕ) → Event
   executed : (name : List ℕ) (pushes writes : ℕ) → Event
 
--- an accepted load is one it answers 0
-abbrev pub logLoad : List ℕ → List ℕ → Outcome → List Event → List Event
-logLoad name body o log = cond (eqb (o .number) 0) (loaded (called name) (instructions body) (o .writes) ∷ log) log
+-- an accepted call is one it answers 0
+abbrev pub logIf : Outcome → Event → List Event → List Event
+logIf o x log = cond (eqb (o .number) 0) (x ∷ log) log
 
 -- a step to which it answers 0, 11 or 12 executes one instruction of the popped entry's name
 abbrev pub logStep : Machine → List Event → List Event
@@ -58,7 +58,8 @@ abbrev pub logRun : Ceiling → Machine → List Event → List Event
 logRun ceiling m log = cond (soundHeader m) (logSteps (ceilingOf ceiling - m .header .steps) m log) log
 
 abbrev pub logCall : Call → Machine → List Event → List Event
-logCall (Load name body origin place) m log = logLoad name body (load m name body origin place) log
+logCall (Load name body origin place) m log =
+    let o = load m name body origin place in logIf o (loaded (called name) (instructions body) (o .writes)) log
 logCall Step m log = logStep m log
 logCall (Run ceiling) m log = logRun ceiling m log
 

@@ -44,24 +44,24 @@ pub run-text : {w number : ℕ} (steps writes : ℕ) (h : Header) {l m : List �
 run-text steps writes h {l = l} {m = m} {q = q} e a = subst (λ (k : ℕ). Puts l m 0 q (text (played k steps writes h))) e a
 
 -- a name is a part of the names' bytes
-pub name-short : (h : Header) (i : ℕ) → length (h .names) ≡ 512 → length (nameAt h i) ≤ 512
+pub name-short : (h : Header) (i : ℕ) → length (h .names .bytes) ≡ 512 → length (nameAt (h .names) i) ≤ 512
 name-short h i e =
-    let all = length-drop (32 * i) (h .names) in
-    let some = length-take (getD (h .lengths) i 0) (drop (32 * i) (h .names)) in
+    let all = length-drop (32 * i) (h .names .bytes) in
+    let some = length-take (getD (h .names .lengths) i 0) (drop (32 * i) (h .names .bytes)) in
     omega arith
 
 -- the loop over the names, with i of them put
 pub record Left (h : Header) (l out : List ℕ) (p to i : ℕ) : Type 0 where
-  pub inside : i ≤ h .held
+  pub inside : i ≤ h .names .held
   pub kept : length out ≡ length l
-  pub room : to + 540 * (h .held - i) ≤ length out
-  pub bytes : sets l p (nameLines h 0 (h .held)) ≡ sets out to (nameLines h i (h .held - i))
-  pub ends : p + length (nameLines h 0 (h .held)) ≡ to + length (nameLines h i (h .held - i))
+  pub room : to + 540 * (h .names .held - i) ≤ length out
+  pub bytes : sets l p (nameLines h 0 (h .names .held)) ≡ sets out to (nameLines h i (h .names .held - i))
+  pub ends : p + length (nameLines h 0 (h .names .held)) ≡ to + length (nameLines h i (h .names .held - i))
 
 module _ (h : Header) (l : List ℕ) (p : ℕ) where
-  pub begun : p + 8640 ≤ length l → h .held ≤ 16 → Left h l l p p 0
+  pub begun : p + 8640 ≤ length l → h .names .held ≤ 16 → Left h l l p p 0
   begun room few =
-      let all : h .held ≡ h .held - 0 = omega arith in
+      let all : h .names .held ≡ h .names .held - 0 = omega arith in
       record {
         inside = omega arith;
         kept = refl;
@@ -71,27 +71,27 @@ module _ (h : Header) (l : List ℕ) (p : ℕ) where
       }
 
   module _ (out : List ℕ) (to i : ℕ) (left : Left h l out p to i) where
-    pub over : h .held ≤ i → Puts l out p to (nameLines h 0 (h .held))
+    pub over : h .names .held ≤ i → Puts l out p to (nameLines h 0 (h .names .held))
     over e =
-        let none : h .held - i ≡ 0 = omega arith in
+        let none : h .names .held - i ≡ 0 = omega arith in
         record {
           out = sym (left .bytes ∙ ap (λ (k : ℕ). sets out to (nameLines h i k)) none);
           to = sym (left .ends ∙ ap (λ (k : ℕ). to + length (nameLines h i k)) none ∙ add-zero to);
           inside = let r = left .room in let k = left .kept in omega arith;
         }
 
-    pub turn : (name : List ℕ) (out′ : List ℕ) (to′ : ℕ) → i < h .held → name ≡ nameAt h i → length name ≤ 512
+    pub turn : (name : List ℕ) (out′ : List ℕ) (to′ : ℕ) → i < h .names .held → name ≡ nameAt (h .names) i → length name ≤ 512
         → Puts out out′ to to′ (lineOf name (getD (h .counts) i 0)) × (to′ ≤ to + length name + 22) → length out′ ≡ length out → Left h l out′ p to′ (i + 1)
     turn name out′ to′ below is short puts same =
-        let one = fall (h .held) i below in
+        let one = fall (h .names .held) i below in
         let line = subst (λ (n : List ℕ). Puts out out′ to to′ (lineOf n (getD (h .counts) i 0))) is (puts .0) in
-        let rest = nameLines h (i + 1) (h .held - (i + 1)) in
+        let rest = nameLines h (i + 1) (h .names .held - (i + 1)) in
         record {
           inside = omega arith;
           kept = same ∙ left .kept;
           room = let r = left .room in let t = puts .1 in omega arith;
-          bytes = left .bytes ∙ ap (λ (k : ℕ). sets out to (nameLines h i k)) one ∙ store-then out out′ (lineOf (nameAt h i) (getD (h .counts) i 0)) rest to to′ (line .out) (sym (line .to));
+          bytes = left .bytes ∙ ap (λ (k : ℕ). sets out to (nameLines h i k)) one ∙ store-then out out′ (lineOf (nameAt (h .names) i) (getD (h .counts) i 0)) rest to to′ (line .out) (sym (line .to));
           ends =
-              left .ends ∙ ap (λ (k : ℕ). to + length (nameLines h i k)) one ∙ ap (λ (k : ℕ). to + k) (length-append (lineOf (nameAt h i) (getD (h .counts) i 0)) rest)
-              ∙ sym (add-assoc to (length (lineOf (nameAt h i) (getD (h .counts) i 0))) (length rest)) ∙ ap (λ (k : ℕ). k + length rest) (sym (line .to));
+              left .ends ∙ ap (λ (k : ℕ). to + length (nameLines h i k)) one ∙ ap (λ (k : ℕ). to + k) (length-append (lineOf (nameAt (h .names) i) (getD (h .counts) i 0)) rest)
+              ∙ sym (add-assoc to (length (lineOf (nameAt (h .names) i) (getD (h .counts) i 0))) (length rest)) ∙ ap (λ (k : ℕ). k + length rest) (sym (line .to));
         }

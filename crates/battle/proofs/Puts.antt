@@ -1,14 +1,14 @@
 -- What is put into memory, call after call.
 -- Assumes nothing.
-use Prim.Native.Nat.{ℕ, zero, suc, _+_, _-_, _≤_, _<_, _^_}
+use Prim.Native.Nat.{ℕ, _+_, _≤_, _<_, _^_}
 use mathlib.Core.Path.{_≡_, sym, ap, subst, _∙_}
 use mathlib.Core.List.{List, _++_}
-use native.Mathlib.Nat.{zero-add, add-assoc, sub-zero}
+use native.Mathlib.Nat.{zero-add, add-assoc}
 use native.Mathlib.Omega.{arith}
-use lib.ListN.{length, drop, replicate, length-append, length-replicate}
-use lib.Seq.{length-sets}
+use lib.ListN.{length, length-append}
+use lib.Seq.{sets, length-sets}
 use Rattle.io.specs.Digits as io
-use Rattle.laws.proofs.Stores.{store-then, stored}
+use Rattle.laws.proofs.Stores.{store-then}
 use Rattle.battle.specs.Text.{decimal}
 use Rattle.battle.specs.Given.{Puts}
 use Rattle.battle.proofs.Digits.{few, decimal-is}
@@ -30,18 +30,7 @@ spelt n k {l = l} {m = m} {p = p} {q = q} f e c h a =
     let is = a .to in
     (subst (Puts l m p q) (e ∙ decimal-is n k f h) a, omega arith)
 
-drop-zeros : (n k : ℕ) → drop n (replicate k 0) ≡ replicate {A = ℕ} (k - n) 0
-drop-zeros zero k = ap (λ (i : ℕ). replicate i 0) (sym (sub-zero k))
-drop-zeros (suc n) zero = ap (λ (i : ℕ). replicate i 0) (let e : 0 ≡ zero - suc n = omega arith in e)
-drop-zeros (suc n) (suc k) = drop-zeros n k ∙ ap (λ (i : ℕ). replicate i 0) (let e : k - n ≡ suc k - suc n = omega arith in e)
-
--- memory of k zeros has room for k
-pub roomy : {l : List ℕ} (k : ℕ) → l ≡ replicate k 0 → k ≤ length l
-roomy k e = let n = ap length e ∙ length-replicate k 0 in omega arith
-
--- memory of zeros into which bytes were put from the start
-pub filled : {l m xs : List ℕ} {q : ℕ} (k : ℕ) → l ≡ replicate k 0 → Puts l m 0 q xs
-    → (m ≡ xs ++ replicate (k - length xs) 0) × (q ≡ length xs) × (q ≤ length m)
-filled {l = l} {xs = xs} {q = q} k e a =
-    let end : length xs ≤ length l = let t = a .to in let i = a .inside in omega arith in
-    (a .out ∙ stored l xs end ∙ ap (λ (zs : List ℕ). xs ++ drop (length xs) zs) e ∙ ap (λ (zs : List ℕ). xs ++ zs) (drop-zeros (length xs) k), a .to ∙ zero-add (length xs), subst (λ (n : ℕ). q ≤ n) (sym (ap length (a .out) ∙ length-sets l 0 xs)) (a .inside))
+-- bytes put from the start
+pub from-the-start : {l m xs : List ℕ} {q : ℕ} → Puts l m 0 q xs → (m ≡ sets l 0 xs) × (q ≡ length xs) × (q ≤ length m)
+from-the-start {l = l} {xs = xs} {q = q} a =
+    (a .out, a .to ∙ zero-add (length xs), subst (λ (n : ℕ). q ≤ n) (sym (ap length (a .out) ∙ length-sets l 0 xs)) (a .inside))

@@ -3,18 +3,19 @@
 use Prim.Native.Nat.{ℕ}
 use mathlib.Core.List.{List, [], _∷_}
 use lib.ListN.{replicate}
-use Rattle.load_file.specs.Cells.{soundWord}
+use Rattle.cell.specs.Cells.{soundWord}
 use Rattle.program.specs.Program.{lawful, lowestFault, cells}
 use Rattle.machine.specs.Queue.{pop, push, started}
 use Rattle.machine.specs.Names.{register, numbered}
 use Rattle.machine.specs.Soundness.{soundHeader, soundEntry}
 use Rattle.machine.specs.Pointers.{operand}
 use Rattle.machine.specs.Execution.{effectOf}
-use Rattle.machine.specs.Step.{effect, coreAfter, stepWrites, counted, executed, step}
+use Rattle.machine.specs.Step.{effect, coreAfter, stepWritten, counted, executed, step}
 use Rattle.machine.specs.Run.{run}
-use Rattle.machine.specs.Load.{fresh, loaded, load}
-use Rattle.match_file.specs.Format.{warrior, line, file}
-use Rattle.match_file.specs.Faults.{lineFault, linesFault, fault}
+use Rattle.machine.specs.Fresh.{fresh}
+use Rattle.machine.specs.Load.{loaded, load}
+use Rattle.match_format.specs.Format.{warrior, line, file}
+use Rattle.match_format.specs.Faults.{lineFault, linesFault, fault}
 use Rattle.battle.specs.Match.{result}
 use Rattle.battle.specs.Text.{decimal, lineOf, printed}
 
@@ -27,7 +28,7 @@ abbrev alone : ℕ → ℕ → ℕ → List ℕ
 alone size opcode place = file size (warrior [] (opcode ∷ 4 ∷ 1 ∷ 1 ∷ replicate 8 0) 0 place ∷ [])
 
 unfoldable pub games : List Row
-unfolding soundWord lawful lowestFault cells register numbered pop push started soundHeader soundEntry fresh loaded load operand effectOf effect coreAfter stepWrites counted executed step run line file lineFault linesFault fault result decimal lineOf printed
+unfolding soundWord lawful lowestFault cells register numbered pop push started soundHeader soundEntry fresh loaded load operand effectOf effect coreAfter stepWritten counted executed step run line file lineFault linesFault fault result decimal lineOf printed
 games =
     -- M 8 and one unnamed DAT.F $0,$0: `11 1 0`, then `Warrior0 0`
     record {

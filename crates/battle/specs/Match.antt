@@ -8,12 +8,13 @@ use lib.ListN.{length, replicate}
 use Rattle.answer.specs.Numbers.{Told, gives}
 use Rattle.machine.specs.declared.Header.{Header}
 use Rattle.machine.specs.declared.Ceiling.the-variants.{Unsaid}
-use Rattle.machine.specs.State.{Machine, Outcome, toldBy}
-use Rattle.machine.specs.Load.{fresh, load}
+use Rattle.machine.specs.State.{ofSize, Machine, Outcome, toldBy}
+use Rattle.machine.specs.Fresh.{fresh}
+use Rattle.machine.specs.Load.{load}
 use Rattle.machine.specs.Run.{run}
-use Rattle.match_file.specs.declared.fault.Fault.{Fault}
-use Rattle.match_file.specs.declared.fault.Fault.the-variants.{Nowhere, At}
-use Rattle.match_file.specs.Faults.{fault}
+use Rattle.match_format.specs.declared.Fault.{Fault}
+use Rattle.match_format.specs.declared.Fault.the-variants.{Nowhere, At}
+use Rattle.match_format.specs.Faults.{fault}
 use Rattle.match_file.specs.Reading.{warriorsIn, sizeIn, warriorOf}
 
 -- the answer to a list of loads, and the machine that they leave
@@ -52,7 +53,7 @@ afterFresh f o = cond (eqb (o .number) 0) (afterLoads (loads f 0 (warriorsIn f) 
 abbrev pub afterReading : List ℕ → Fault → Result
 afterReading f (At p) = refused (gives 13 p)
 afterReading f Nowhere =
-    cond (ltb 8000 (sizeIn f)) (refused (gives 1 0)) (afterFresh f (fresh (sizeIn f) (replicate (sizeIn f) 0) (replicate 2000 0)))
+    cond (ltb 8000 (sizeIn f)) (refused (gives 1 0)) (afterFresh f (fresh (ofSize (sizeIn f)) (replicate (sizeIn f) 0) (replicate 2000 0)))
 
 -- at most 32,768 bytes, else 13 at 32,768
 unfoldable pub result : List ℕ → Result

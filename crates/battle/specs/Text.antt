@@ -26,7 +26,7 @@ lineOf name count = name ++ (32 ∷ (decimal count ++ (10 ∷ [])))
 -- name and count for each name in order of first load: of the n names from slot i on
 abbrev pub nameLines : Header → ℕ → ℕ → List ℕ
 nameLines h i zero = []
-nameLines h i (suc n) = lineOf (nameAt h i) (getD (h .counts) i 0) ++ nameLines h (i + 1) n
+nameLines h i (suc n) = lineOf (nameAt (h .names) i) (getD (h .counts) i 0) ++ nameLines h (i + 1) n
 
 -- refused earlier: one line, the number, and for 13 its position
 abbrev pub position : Told → List ℕ
@@ -35,7 +35,7 @@ position t = cond (eqb (t .number) 13) (32 ∷ decimal (t .value)) []
 -- answer, steps, writes of the run; then the names
 abbrev pub text : Result → List ℕ
 text (refused t) = decimal (t .number) ++ (position t ++ (10 ∷ []))
-text (played number steps writes h) = decimal number ++ (32 ∷ (decimal steps ++ (32 ∷ (decimal writes ++ (10 ∷ nameLines h 0 (h .held))))))
+text (played number steps writes h) = decimal number ++ (32 ∷ (decimal steps ++ (32 ∷ (decimal writes ++ (10 ∷ nameLines h 0 (h .names .held))))))
 
 -- every byte that is printed for a file
 unfoldable pub printed : List ℕ → List ℕ

@@ -1,9 +1,10 @@
 // Plays a match file (01, 'Match file', `play`), and prints what came of it.
 ghost use mathlib.Core.Path.{_≡_};
-ghost use mathlib.Core.List.{_++_};
-ghost use Prim.Native.Nat.{_-_, _≤_};
+ghost use Prim.Native.Nat.{_≤_};
 ghost use lib.ListN.{length, replicate};
+ghost use lib.Seq.{sets};
 ghost use Rattle.battle.specs.Text.{printed};
+use machine::Rules;
 use playing::play_file;
 use sim::blank;
 use text::put_refusal;
@@ -11,12 +12,6 @@ use text::put_run;
 
 mod playing;
 mod text;
-
-// What is to be printed: that many of the bytes; the others are 0.
-pub struct Printed {
-    pub bytes: [u8; 16384],
-    pub length: usize,
-}
 
 // Memory for a file, and one byte more, which tells a file that is too long.
 pub fn file_memory() -> [u8; 32769]
@@ -41,36 +36,30 @@ fn queue_memory() -> [u64; 2000]
 
 // Memory for what is printed.
 fn text_memory() -> [u8; 16384]
-    ensures { λ r. ⌜ r ≡ replicate 16384 0 ⌝ }
+    ensures { λ r. ⌜ length r ≡ 16384 ⌝ }
 {
     [0; 16384]
 }
 
-// Plays a match file: gives every byte that is to be printed.
-pub fn play(file: &[u8]) -> Printed
-    ensures { λ r. ⌜ (r .bytes ≡ printed (now (file .entry)) ++ replicate (16384 - length (printed (now (file .entry)))) 0) × (r .length ≡ length (printed (now (file .entry)))) × (r .length ≤ length (r .bytes)) ⌝ }
+// Plays a match file: puts every byte that is to be printed at the start of the memory lent for it, and gives how many they are.
+pub fn play(file: &[u8], out: &mut [u8; 16384]) -> usize
+    ensures { λ r. ⌜ (now (out .exit) ≡ sets (now (out .entry)) 0 (printed (now (file .entry)))) × (r ≡ length (printed (now (file .entry)))) × (r ≤ length (now (out .exit))) ⌝ }
 {
     let mut core = core_memory();
     let mut queue = queue_memory();
-    let mut bytes = text_memory();
-    let p = play_file(file, &mut core, &mut queue, blank(0));
+    let p = play_file(file, &mut core, &mut queue, blank(Rules { size: 0 }));
     let answer = p.answer;
+    let text = &mut out[..];
     if p.ran {
         let h = p.header;
-        let all = put_run(&mut bytes, answer, p.steps, p.writes, h);
-        return Printed { bytes, length: all };
+        return put_run(text, answer, p.steps, p.writes, h);
     }
-    let line = put_refusal(&mut bytes, answer);
-    Printed {
-        bytes,
-        length: line,
-    }
+    put_refusal(text, answer)
 }
 
 // Plays a match file, and writes to standard output what is to be printed.
 pub fn print(file: &[u8]) {
-    let p = play(file);
-    let bytes = p.bytes;
-    let length = p.length;
-    io::write_all(1, &bytes[..length]);
+    let mut text = text_memory();
+    let length = play(file, &mut text);
+    io::write_all(1, &text[..length]);
 }

@@ -3,24 +3,24 @@ ghost use mathlib.Core.Path.{_≡_};
 ghost use mathlib.Core.Bool.{true, false};
 ghost use Prim.Native.Nat.{_≤_};
 ghost use lib.ListN.{length};
-ghost use Rattle.match_file.specs.declared.fault.Fault.the-variants.{Nowhere};
-ghost use Rattle.match_file.specs.Faults.{fault};
+ghost use Rattle.match_format.specs.declared.Fault.the-variants.{Nowhere};
+ghost use Rattle.match_format.specs.Faults.{fault};
 ghost use Rattle.match_file.specs.Reading.{warriorsIn};
-ghost use Rattle.machine.specs.Load as begins;
-ghost use Rattle.process.specs.Parts.{machineOf};
+ghost use Rattle.machine.specs.Fresh as begins;
+ghost use Rattle.lent.specs.Parts.{machineOf};
 ghost use Rattle.battle.specs.Match as spec;
 ghost use Rattle.battle.specs.Given.{loadsOf, resultOf};
 use answer::Answer;
 use answer::number;
 use cycle::run;
+use encoding::part;
 use machine::Ceiling;
 use machine::Header;
-use match_file::body;
-use match_file::name;
+use machine::Rules;
+use match_file::line_in;
 use match_file::read;
-use match_file::read_line;
 use sim::fresh;
-use sim::warrior::load;
+use warrior::load;
 
 // The answer to a list of loads, and the header that they leave.
 struct Loaded {
@@ -29,7 +29,7 @@ struct Loaded {
 }
 
 // What comes of a file: whether it was run, the answer, the steps and writes of the run, and the header.
-pub struct Played {
+pub(crate) struct Played {
     pub ran: bool,
     pub answer: Answer,
     pub steps: u64,
@@ -37,22 +37,22 @@ pub struct Played {
     pub header: Header,
 }
 
-// Loads the warriors of a file that reads, up to the first refused.
+// Loads that many warriors of a file, up to the first refused.
 fn load_all(file: &[u8], count: usize, core: &mut [u64], queue: &mut [u64], h: Header) -> Loaded
-    requires { ⌜ (fault (now file) ≡ Nowhere) × (count ≡ warriorsIn (now file)) ⌝ }
+    requires { ⌜ count ≤ 16 ⌝ }
     ensures { λ r. ⌜ loadsOf (r .answer) (machineOf (now (core .exit)) (now (queue .exit)) (r .header))
         ≡ spec.loads (now (file .entry)) 0 count (machineOf (now (core .entry)) (now (queue .entry)) h) ⌝ }
 {
     let mut header = h;
     let mut i: usize = 0;
     while i < count {
-        let l = read_line(file, i);
+        let l = line_in(file, i as u8);
         let o = load(
             core,
             queue,
             header,
-            name(file, i),
-            body(file, i),
+            part(file, l.name_start, l.name_length),
+            part(file, l.body_start, 12 * l.count as usize),
             l.origin,
             l.place,
         );
@@ -83,13 +83,19 @@ fn refuse(answer: Answer, header: Header) -> Played
 }
 
 // The warriors of a file that reads are loaded into a core of its size, and run with no ceiling given.
-fn play_loaded(file: &[u8], size: u32, count: usize, core: &mut [u64], queue: &mut [u64]) -> Played
+fn play_loaded(
+    file: &[u8],
+    rules: Rules,
+    count: usize,
+    core: &mut [u64],
+    queue: &mut [u64],
+) -> Played
     requires { ⌜ (fault (now file) ≡ Nowhere) × (count ≡ warriorsIn (now file)) ⌝ }
     ensures { λ r. ⌜ (resultOf (r .ran) (r .answer) (r .steps) (r .writes) (r .header)
-        ≡ spec.afterFresh (now (file .entry)) (begins.fresh size (now (core .entry)) (now (queue .entry))))
-        × (r .ran ≡ true → r .header .held ≤ 16) ⌝ }
+        ≡ spec.afterFresh (now (file .entry)) (begins.fresh rules (now (core .entry)) (now (queue .entry))))
+        × (r .ran ≡ true → r .header .names .held ≤ 16) ⌝ }
 {
-    let f = fresh(size, core, queue);
+    let f = fresh(rules, core, queue);
     let blank = f.header;
     let first = f.answer;
     if number(first) != 0 {
@@ -114,9 +120,9 @@ fn play_loaded(file: &[u8], size: u32, count: usize, core: &mut [u64], queue: &m
 }
 
 // Plays a file, with memory for 8,000 cells and 2,000 queue entries.
-pub fn play_file(file: &[u8], core: &mut [u64], queue: &mut [u64], blank: Header) -> Played
+pub(crate) fn play_file(file: &[u8], core: &mut [u64], queue: &mut [u64], blank: Header) -> Played
     requires { ⌜ (length (now core) ≡ 8000) × (length (now queue) ≡ 2000) ⌝ }
-    ensures { λ r. ⌜ (resultOf (r .ran) (r .answer) (r .steps) (r .writes) (r .header) ≡ spec.result (now (file .entry))) × (r .ran ≡ true → r .header .held ≤ 16) ⌝ }
+    ensures { λ r. ⌜ (resultOf (r .ran) (r .answer) (r .steps) (r .writes) (r .header) ≡ spec.result (now (file .entry))) × (r .ran ≡ true → r .header .names .held ≤ 16) ⌝ }
 {
     if file.len() > 32768 {
         return refuse(Answer::Malformed(32768), blank);
@@ -131,5 +137,6 @@ pub fn play_file(file: &[u8], core: &mut [u64], queue: &mut [u64], blank: Header
     }
     let cells = c.size as usize;
     let lent = &mut core[..cells];
-    play_loaded(file, c.size, c.warriors, lent, queue)
+    let rules = Rules { size: c.size };
+    play_loaded(file, rules, c.warriors, lent, queue)
 }

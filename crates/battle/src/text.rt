@@ -10,9 +10,9 @@ ghost use Rattle.battle.specs.Given.{Puts};
 use answer::Answer;
 use answer::number;
 use answer::value;
+use encoding::store::copy;
 use machine::Header;
-use process::names::name_at;
-use program::store::copy;
+use names::name_at;
 
 // Puts a byte.
 fn put_byte(out: &mut [u8], at: usize, b: u8) -> usize
@@ -62,23 +62,23 @@ fn sized(names: &[u8; 512])
 
 // Puts the names held and their counts.
 fn put_names(out: &mut [u8], at: usize, h: Header) -> usize
-    requires { ⌜ (at + 8640 ≤ length (now out)) × (h .held ≤ 16) ⌝ }
-    ensures { λ r. ⌜ Puts (now (out .entry)) (now (out .exit)) at r (spec.nameLines h 0 (h .held)) ⌝ }
+    requires { ⌜ (at + 8640 ≤ length (now out)) × (h .names .held ≤ 16) ⌝ }
+    ensures { λ r. ⌜ Puts (now (out .entry)) (now (out .exit)) at r (spec.nameLines h 0 (h .names .held)) ⌝ }
 {
-    sized(&h.names);
-    let held = h.held as usize;
+    sized(&h.names.bytes);
+    let held = h.names.held as usize;
     let mut to = at;
     let mut i: usize = 0;
     while i < held {
         let count = h.counts[i];
-        to = put_name(out, to, name_at(&h.names, &h.lengths, i), count);
+        to = put_name(out, to, name_at(&h.names.bytes, &h.names.lengths, i), count);
         i = i + 1;
     }
     to
 }
 
 // Puts the line of a refusal: the number, and for 13 its position.
-pub fn put_refusal(out: &mut [u8], answer: Answer) -> usize
+pub(crate) fn put_refusal(out: &mut [u8], answer: Answer) -> usize
     requires { ⌜ 64 ≤ length (now out) ⌝ }
     ensures { λ r. ⌜ Puts (now (out .entry)) (now (out .exit)) 0 r (spec.text (refused (told answer))) ⌝ }
 {
@@ -93,8 +93,8 @@ pub fn put_refusal(out: &mut [u8], answer: Answer) -> usize
 }
 
 // Puts the lines of a run: answer, steps and writes, then the names.
-pub fn put_run(out: &mut [u8], answer: Answer, steps: u64, writes: u64, h: Header) -> usize
-    requires { ⌜ (16384 ≤ length (now out)) × (h .held ≤ 16) ⌝ }
+pub(crate) fn put_run(out: &mut [u8], answer: Answer, steps: u64, writes: u64, h: Header) -> usize
+    requires { ⌜ (16384 ≤ length (now out)) × (h .names .held ≤ 16) ⌝ }
     ensures { λ r. ⌜ Puts (now (out .entry)) (now (out .exit)) 0 r (spec.text (played (told answer .number) steps writes h)) ⌝ }
 {
     let numbered = put_decimal(out, 0, number(answer) as u64);

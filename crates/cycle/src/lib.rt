@@ -1,27 +1,14 @@
-// Step and run (01, 'One step').
+// Step and run, the header by value (01, 'One step').
 ghost use mathlib.Core.Path.{_≡_};
+ghost use Rattle.answer.specs.Numbers.{told};
 ghost use Rattle.machine.specs.Step as one;
 ghost use Rattle.machine.specs.Run as spec;
-ghost use Rattle.process.specs.Parts.{machineOf};
-ghost use Rattle.cycle.specs.Given.{given, givenBy};
-use crate::parts::run_parts;
-use answer::Answer;
+ghost use Rattle.lent.specs.Parts.{machineOf};
+ghost use Rattle.lent.specs.Given.{given, givenBy};
 use machine::Ceiling;
 use machine::Header;
-use process::queue::Ring;
-
-mod parts;
-mod running;
-mod stepping;
-mod turn;
-
-// An answer, its writes and steps, and the header.
-pub struct Outcome {
-    pub answer: Answer,
-    pub writes: u64,
-    pub steps: u64,
-    pub header: Header,
-}
+use machine::Outcome;
+use steps::run_parts;
 
 // A ceiling on total steps; none is 10,000.
 fn ceiling_of(ceiling: Ceiling) -> u64
@@ -35,31 +22,27 @@ fn ceiling_of(ceiling: Ceiling) -> u64
 
 // Steps while steps taken are below the ceiling, up to the first answer not 0.
 pub fn run(core: &mut [u64], queue: &mut [u64], mut h: Header, ceiling: Ceiling) -> Outcome
-    ensures { λ r. ⌜ given (r .answer) (r .writes) (r .steps) (machineOf (now (core .exit)) (now (queue .exit)) (r .header))
+    ensures { λ r. ⌜ given (told (r .answer)) (r .writes) (r .steps) (machineOf (now (core .exit)) (now (queue .exit)) (r .header))
         ≡ givenBy (spec.run ceiling (machineOf (now (core .entry)) (now (queue .entry)) h)) ⌝ }
 {
     let mut counts = h.counts;
     let mut threads = h.threads;
-    let ring = Ring {
-        head: h.head,
-        length: h.length,
-    };
     let limit = ceiling_of(ceiling);
     let s = run_parts(
         core,
         queue,
         &mut counts,
         &mut threads,
-        &h.names,
-        &h.lengths,
-        h.size,
-        h.held,
-        ring,
+        &h.names.bytes,
+        &h.names.lengths,
+        h.rules,
+        h.names.held,
+        h.ring,
         h.steps,
         limit,
     );
-    h.head = s.ring.head;
-    h.length = s.ring.length;
+    let ring = s.ring;
+    h.ring = ring;
     h.steps = s.taken;
     h.counts = counts;
     h.threads = threads;
@@ -74,31 +57,27 @@ pub fn run(core: &mut [u64], queue: &mut [u64], mut h: Header, ceiling: Ceiling)
 
 // Executes one instruction of the process at the front: a run with a ceiling of one more step.
 pub fn step(core: &mut [u64], queue: &mut [u64], mut h: Header) -> Outcome
-    ensures { λ r. ⌜ given (r .answer) (r .writes) (r .steps) (machineOf (now (core .exit)) (now (queue .exit)) (r .header))
+    ensures { λ r. ⌜ given (told (r .answer)) (r .writes) (r .steps) (machineOf (now (core .exit)) (now (queue .exit)) (r .header))
         ≡ givenBy (one.step (machineOf (now (core .entry)) (now (queue .entry)) h)) ⌝ }
 {
     let mut counts = h.counts;
     let mut threads = h.threads;
-    let ring = Ring {
-        head: h.head,
-        length: h.length,
-    };
     let limit = h.steps as u64 + 1;
     let s = run_parts(
         core,
         queue,
         &mut counts,
         &mut threads,
-        &h.names,
-        &h.lengths,
-        h.size,
-        h.held,
-        ring,
+        &h.names.bytes,
+        &h.names.lengths,
+        h.rules,
+        h.names.held,
+        h.ring,
         h.steps,
         limit,
     );
-    h.head = s.ring.head;
-    h.length = s.ring.length;
+    let ring = s.ring;
+    h.ring = ring;
     h.steps = s.taken;
     h.counts = counts;
     h.threads = threads;

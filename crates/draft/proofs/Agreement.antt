@@ -1,67 +1,69 @@
 -- The theorem: a step to which no departure applies makes the draft's change of the core and queues the draft's next places.
 -- Assumes nothing.
 use Prim.Native.Nat.{ℕ, _≤_, _<_}
-use mathlib.Core.Path.{_≡_, sym, ap, ap₂, subst, _∙_}
+use mathlib.Core.Path.{_≡_, refl, sym, ap, ap₂, subst, _∙_}
 use mathlib.Core.Bool.{Bool, true, false, _&&_, _||_, false≢true}
 use mathlib.Core.List.{List, [], _∷_, _++_, map}
 use native.Mathlib.Nat.{mod-lt}
 use native.Mathlib.Omega.{arith}
 use lib.Dec.{eqb, leb}
-use borrow.Author.Tests.{eqb-true, leb-true, ltb-true, not-false}
+use borrow.Author.Tests.{leb-true, not-false}
 use lib.ListN.{length, getD, take, drop}
 use lib.Seq.{take-all}
 use Rattle.laws.specs.Lists.{among}
-use Rattle.laws.proofs.Tests.{both, neither, holds}
+use Rattle.laws.proofs.Tests.{both, neither}
 use Rattle.laws.proofs.Every.{every-weaker}
-use Rattle.load_file.specs.declared.Cell.{Cell}
-use Rattle.load_file.specs.Mode.{PostIncIndirectA, PostIncIndirectB}
-use Rattle.load_file.specs.Cells.{unpacked, soundWord}
-use Rattle.load_file.proofs.Soundness.{Sound, sound-fields}
+use Rattle.cell.specs.declared.Cell.{Cell}
+use Rattle.types.specs.Opcode.{DJN}
+use Rattle.types.specs.Mode.{PostIncIndirectA, PostIncIndirectB}
+use Rattle.cell.specs.Cells.{unpacked, soundWord, cellAt}
+use Rattle.cell.proofs.Words.{word-range}
+use Rattle.cell.proofs.Soundness.{Sound, sound-fields}
 use Rattle.machine.specs.State.{Machine, accepted, first}
 use Rattle.machine.specs.Queue.{unpackedEntry, entries, front, pop}
-use Rattle.machine.specs.Soundness.{headerTests, soundHeader, soundEntry}
+use Rattle.machine.specs.Soundness.{soundHeader, soundEntry}
 use Rattle.machine.specs.Execution.{Next, ends, goes, splits}
 use Rattle.machine.specs.Instruction.{fetched}
-use Rattle.machine.specs.Step.{pc, popped, instruction, operandA, operandB, effect, coreAfter, counted, executed, stepChecks, step, executes}
-use Rattle.machine.proofs.Checks.{passes}
+use Rattle.machine.specs.Step.{pc, popped, site, instruction, operandA, operandB, effect, coreAfter, counted, executed, stepChecks, step, executes}
+use Rattle.machine.proofs.Checks.{passed}
 use Rattle.machine.proofs.Queue.{entries-pop}
-use Rattle.machine.proofs.Soundness.{sound-entry}
+use Rattle.machine.proofs.Soundness.{tested, sound-entry}
+use Rattle.machine.proofs.Pointers.{one-pointer}
 use Rattle.machine.proofs.Step.{not-last, step-by-cases, step-executed, nonzero, counting}
 use Rattle.draft.specs.Evaluation.{modes, immediate, evaluate}
 use Rattle.draft.specs.Draft.{State, Done, modifiers, I, execute, opcodes, NOP, obey}
 use Rattle.draft.specs.Draft
 use Rattle.draft.specs.Comparison.{cells, unlimited, drafted, places, room}
-use Rattle.draft.specs.Departures.{scene, locationB, readsAgain, keepsModes, hitsTarget, divides, testsBoth, comparesTwins, departs}
+use Rattle.draft.specs.Departures.{scene, comparesWhole, locationB, readsAgain, keepsModes, hitsTarget, divides, testsBoth, comparesTwins, departs}
 use Rattle.draft.proofs.Cores.{reads}
-use Rattle.draft.proofs.Operands.{Same, same-operand, operand-long, pointer-lt, register-range, live-register, keeps-b}
+use Rattle.draft.proofs.Operands.{Same, same-operand, operand-long, read-lt, write-lt, register-range, live-register, keeps-b}
 use Rattle.draft.proofs.Effects.{nexts, Agree, Clear, same-effect}
 use Rattle.draft.proofs.Places.{Below, next-below, places-queued}
 
 -- what the checks tell of a step that passed them
 record Facts (m : Machine) : Type 0 where
-  pos : 0 < m .header .size
-  fits : m .header .size ≤ 65536
-  long : length (m .core) ≡ m .header .size
-  head : m .header .head < length (m .queue)
-  limit : m .header .length ≤ length (m .queue)
-  some : 0 < m .header .length
-  there : pc m < m .header .size
-  sound : Sound (m .header .size) (instruction m)
+  pos : 0 < m .header .rules .size
+  fits : m .header .rules .size ≤ 65536
+  long : length (m .core) ≡ m .header .rules .size
+  head : m .header .ring .head < length (m .queue)
+  limit : m .header .ring .length ≤ length (m .queue)
+  some : 0 < m .header .ring .length
+  there : pc m < m .header .rules .size
+  sound : Sound (m .header .rules .size) (instruction m)
   opcode : instruction m .opcode < 17
 
 facts : (m : Machine) → first (stepChecks m) ≡ accepted → Facts m
-unfolding soundHeader
 facts m e =
-    let p = passes (stepChecks m) e in
-    let h = holds (headerTests m) (not-false (soundHeader m) (p .0)) in
-    let z = both (leb 1 (m .header .size)) (leb (m .header .size) 46341) (h .0) in
-    let s = sound-fields (m .header .size) (getD (m .core) (pc m) 0) (not-false (soundWord (m .header .size) (getD (m .core) (pc m) 0)) (p .1 .1 .1 .1 .0)) in
+    let p = passed (stepChecks m) e in
+    let h = tested m (not-false (soundHeader m) (p .0)) in
+    let z = both (leb 1 (m .header .rules .size)) (leb (m .header .rules .size) 46341) (h .size) in
+    let s = sound-fields (m .header .rules .size) (getD (m .core) (pc m) 0) (not-false (soundWord (m .header .rules .size) (getD (m .core) (pc m) 0)) (p .1 .1 .1 .1 .0)) in
     record {
       pos = leb-true _ _ (z .0);
-      fits = let l : m .header .size ≤ 46341 = leb-true _ _ (z .1) in omega arith;
-      long = sym (eqb-true _ _ (h .1 .0));
-      head = ltb-true _ _ (h .1 .1 .1 .1 .0);
-      limit = leb-true _ _ (h .1 .1 .1 .0);
+      fits = let l : m .header .rules .size ≤ 46341 = leb-true _ _ (z .1) in omega arith;
+      long = h .core;
+      head = h .head;
+      limit = h .limit;
       some = nonzero (p .1 .0);
       there = sound-entry (m .header) (front m) (not-false (soundEntry (m .header) (front m)) (p .1 .1 .0)) .place;
       sound = s .1;
@@ -88,7 +90,7 @@ none-of m e =
 
 module _ (m : Machine) (f : Facts m) (none : None m) where
   abbrev M : ℕ
-  M = m .header .size
+  M = m .header .rules .size
 
   abbrev IR : Cell
   IR = instruction m
@@ -97,32 +99,32 @@ module _ (m : Machine) (f : Facts m) (none : None m) where
   abbrev again : ℕ
   again = fetched (operandA m .core) (pc m) .b .0
 
-  sameA : Same M (pc m) (operandA m .core) (operandA m .pointer) (operandA m .register) (Draft.operandA (unlimited M) (cells m) (pc m) IR)
+  sameA : Same M (pc m) (operandA m .core) (operandA m .read) (operandA m .write) (operandA m .register) (Draft.operandA (unlimited M) (cells m) (pc m) IR)
   sameA = same-operand M (f .pos) (f .fits) (pc m) (IR .a .0) (f .there) (m .core) (f .long) (IR .«a_mode») (f .sound .a-mode)
 
   longA : length (operandA m .core) ≡ M
   longA = operand-long M (f .pos) (f .fits) (pc m) (IR .a .0) (f .there) (m .core) (f .long) (IR .«a_mode»)
 
-  jump-lt : operandA m .pointer < M
-  jump-lt = pointer-lt M (f .pos) (f .fits) (pc m) (IR .a .0) (f .there) (m .core) (f .long) (IR .«a_mode») (f .sound .a-mode)
+  jump-lt : operandA m .read < M
+  jump-lt = read-lt M (f .pos) (f .fits) (pc m) (IR .a .0) (f .there) (m .core) (f .long) (IR .«a_mode») (f .sound .a-mode)
 
   -- it is the number as fetched
   kept : again ≡ IR .b .0
   kept = keeps-b M (f .pos) (f .fits) (pc m) (IR .a .0) (f .there) (m .core) (f .long) (f .sound .a) (IR .«a_mode») (f .sound .a-mode) (none .first)
 
-  sameB : Same M (pc m) (operandB m .core) (operandB m .pointer) (operandB m .register) (Draft.operandB (unlimited M) (cells m) (pc m) IR)
+  sameB : Same M (pc m) (operandB m .core) (operandB m .read) (operandB m .write) (operandB m .register) (Draft.operandB (unlimited M) (cells m) (pc m) IR)
   sameB =
-      subst (λ (cs : List Cell). Same M (pc m) (operandB m .core) (operandB m .pointer) (operandB m .register)
+      subst (λ (cs : List Cell). Same M (pc m) (operandB m .core) (operandB m .read) (operandB m .write) (operandB m .register)
       (evaluate (unlimited M) cs (pc m) (getD modes (IR .«b_mode») immediate) (IR .b .0))) (sameA .core)
-      (subst (λ (n : ℕ). Same M (pc m) (operandB m .core) (operandB m .pointer) (operandB m .register)
+      (subst (λ (n : ℕ). Same M (pc m) (operandB m .core) (operandB m .read) (operandB m .write) (operandB m .register)
       (evaluate (unlimited M) (map unpacked (operandA m .core)) (pc m) (getD modes (IR .«b_mode») immediate) n)) kept
       (same-operand M (f .pos) (f .fits) (pc m) again (f .there) (operandA m .core) longA (IR .«b_mode») (f .sound .b-mode)))
 
-  target-lt : operandB m .pointer < length (operandB m .core)
+  target-lt : operandB m .write < length (operandB m .core)
   target-lt =
-      subst (λ (n : ℕ). operandB m .pointer < n)
+      subst (λ (n : ℕ). operandB m .write < n)
       (sym (operand-long M (f .pos) (f .fits) (pc m) again (f .there) (operandA m .core) longA (IR .«b_mode»)))
-      (pointer-lt M (f .pos) (f .fits) (pc m) again (f .there) (operandA m .core) longA (IR .«b_mode») (f .sound .b-mode))
+      (write-lt M (f .pos) (f .fits) (pc m) again (f .there) (operandA m .core) longA (IR .«b_mode») (f .sound .b-mode))
 
   -- the draft's registers
   abbrev state : State
@@ -131,8 +133,8 @@ module _ (m : Machine) (f : Facts m) (none : None m) where
         M = M;
         modifier = getD modifiers (IR .modifier) I;
         PC = pc m;
-        jump = operandA m .pointer;
-        target = operandB m .pointer;
+        jump = operandA m .read;
+        target = operandB m .write;
         IRA = operandA m .register;
         IRB = operandB m .register;
         core = map unpacked (operandB m .core);
@@ -157,28 +159,37 @@ module _ (m : Machine) (f : Facts m) (none : None m) where
         core = sym (sameB .core) i;
       })
 
-  clear : Clear (IR .opcode) (IR .modifier) (operandA m .register) (operandB m .register) (scene m .live)
-  clear =
-      record {
-        modes = none .second;
-        hits = λ w.
-            sym (live-register M (f .pos) (f .fits) (pc m) again (f .there) (operandA m .core) longA (IR .«b_mode») (f .sound .b-mode)
-            (missed _ (among (PostIncIndirectA ∷ PostIncIndirectB ∷ []) (IR .«b_mode») && eqb (locationB m) (operandB m .pointer)) w (none .third)));
-        divides = none .fourth;
-        tests = none .fifth;
-        twins = none .sixth;
-      }
+  -- the live cell is the register, unless B's increment hits it
+  live-is : comparesWhole IR || eqb (IR .opcode) DJN ≡ true → operandB m .register ≡ scene m .live
+  live-is w =
+      sym (live-register M (f .pos) (f .fits) (pc m) again (f .there) (operandA m .core) longA (IR .«b_mode») (f .sound .b-mode)
+      (missed _ (among (PostIncIndirectA ∷ PostIncIndirectB ∷ []) (IR .«b_mode») && eqb (locationB m) (operandB m .read)) w (none .third)))
     where
       missed : (x y : Bool) → x ≡ true → (x && y) ≡ false → y ≡ false
       missed true y w e = e
       missed false y w e = absurd (false≢true w)
 
-  effect-is : Agree (effect m) (operandB m .core) (operandB m .pointer) done
+  clear : Clear (IR .opcode) (IR .modifier) (operandA m .register) (operandB m .register) (scene m .live) (scene m .target)
+  clear =
+      record {
+        modes = none .second;
+        compares = λ w. live-is (rw w);
+        counts = λ w. live-is (either (comparesWhole IR) w) ∙ ap (cellAt (operandB m .core)) (sym (one-pointer (site m) (operandA m .core) (IR .«b_mode») again));
+        divides = none .fourth;
+        tests = none .fifth;
+        twins = none .sixth;
+      }
+    where
+      either : (x : Bool) {y : Bool} → y ≡ true → (x || y) ≡ true
+      either true e = refl
+      either false e = e
+
+  effect-is : Agree (effect m) (operandB m .core) (operandB m .write) done
   unfolding effect
   effect-is =
-      same-effect M (f .pos) (f .fits) (pc m) (operandA m .pointer) (operandA m .register) (operandB m .register)
-      (register-range M (f .pos) (f .fits) (pc m) (IR .a .0) (f .there) (m .core) (f .long) (IR .«a_mode»))
-      (operandB m .core) (operandB m .pointer) target-lt (IR .modifier) (let h : IR .modifier ≤ 6 = f .sound .modifier in omega arith)
+      same-effect M (f .pos) (f .fits) (pc m) (operandA m .read) (operandA m .register) (operandB m .register) (scene m .live)
+      (register-range M (f .pos) (f .fits) (pc m) (IR .a .0) (f .there) (m .core) (f .long) (IR .«a_mode»)) (word-range _)
+      (operandB m .core) (operandB m .write) target-lt (IR .modifier) (let h : IR .modifier ≤ 6 = f .sound .modifier in omega arith)
       (IR .opcode) (f .opcode) clear
 
   core-is : map unpacked (coreAfter m) ≡ drafted m .core
@@ -225,7 +236,7 @@ short (goes p) = omega arith
 short (splits p c) = omega arith
 
 -- where the queue was not full the limit drops nothing
-pub agreement-with-room : (m : Machine) → executes (step m .number) ≡ true → departs m ≡ false → m .header .length < length (m .queue)
+pub agreement-with-room : (m : Machine) → executes (step m .number) ≡ true → departs m ≡ false → m .header .ring .length < length (m .queue)
     → places (step m .machine) ≡ drop 1 (places m) ++ drafted m .next
 agreement-with-room m t d r =
     let f = facts m (step-executed m t .0) in

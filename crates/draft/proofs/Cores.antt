@@ -10,10 +10,10 @@ use lib.Dec.{eqb, ltb}
 use borrow.Author.Tests.{eqb-true, eqb-false}
 use lib.ListN.{length, getD, set, List·getD-map}
 use Rattle.laws.proofs.Lists.{map-set}
-use Rattle.load_file.specs.declared.Cell.{Cell}
-use Rattle.load_file.specs.Types.{Field, A, B}
-use Rattle.load_file.specs.Cells.{packed, unpacked, number, withNumber}
-use Rattle.load_file.proofs.Words.{InRange, word-range, with-range, unpack-pack}
+use Rattle.cell.specs.declared.Cell.{Cell}
+use Rattle.types.specs.Types.{Field, A, B}
+use Rattle.cell.specs.Cells.{packed, unpacked, number, withNumber}
+use Rattle.cell.proofs.Words.{InRange, word-range, with-range, unpack-pack}
 use Rattle.machine.specs.Pointers.{changed}
 use Rattle.machine.proofs.Pointers.{changed-same, changed-other}
 use Rattle.draft.specs.Evaluation.{Fold, at, assign}

@@ -14,12 +14,12 @@ use Rattle.laws.specs.Lists.{among}
 use Rattle.laws.proofs.Tests.{both, neither}
 use Rattle.laws.proofs.Numbers.{below}
 use Rattle.laws.proofs.Every.{_and_}
-use Rattle.load_file.specs.declared.Cell.{Cell}
-use Rattle.load_file.specs.Offset.{ahead}
-use Rattle.load_file.specs.Opcode.{MOV, DIV, MOD, JMZ, DJN, CMP, SEQ, SNE}
-use Rattle.load_file.specs.Modifier as modifier
-use Rattle.load_file.specs.Cells.{packed, unpacked}
-use Rattle.load_file.proofs.Words.{InRange, word-range, cell-ext}
+use Rattle.cell.specs.declared.Cell.{Cell}
+use Rattle.offset.specs.Offset.{ahead}
+use Rattle.types.specs.Opcode.{MOV, DIV, MOD, JMZ, DJN, CMP, SEQ, SNE}
+use Rattle.types.specs.Modifier as modifier
+use Rattle.cell.specs.Cells.{packed, unpacked}
+use Rattle.cell.proofs.Words.{InRange, word-range, cell-ext}
 use Rattle.machine.specs.Pointers.{less}
 use Rattle.machine.specs.Execution.{Next, ends, goes, splits, Scene, Effect, copied, computes, stored, equal, effectOf}
 use Rattle.machine.specs.Instruction.{storeTo}
@@ -42,10 +42,11 @@ pub record Agree (e : Effect) (words : List ℕ) (t : ℕ) (d : Done) : Type 0 w
   pub core : map unpacked (storeTo (e .cell) words t) ≡ d .core
   pub next : nexts (e .next) ≡ d .next
 
--- departures 2 to 6 do not apply, told of the opcode, the modifier, the registers and the target cell
-pub record Clear (op k : ℕ) (ra rb live : Cell) : Type 0 where
-  pub modes : (eqb op MOV && eqb k modifier.I && not (eqb (ra .«a_mode») (live .«a_mode») && eqb (ra .«b_mode») (live .«b_mode»))) ≡ false
-  pub hits : (among (CMP ∷ SEQ ∷ SNE ∷ []) op && eqb k modifier.I || eqb op DJN) ≡ true → rb ≡ live
+-- departures 2 to 6 do not apply, told of the opcode, the modifier, the registers, the live cell and the target
+pub record Clear (op k : ℕ) (ra rb live target : Cell) : Type 0 where
+  pub modes : (eqb op MOV && eqb k modifier.I && not (eqb (ra .«a_mode») (target .«a_mode») && eqb (ra .«b_mode») (target .«b_mode»))) ≡ false
+  pub compares : (among (CMP ∷ SEQ ∷ SNE ∷ []) op && eqb k modifier.I) ≡ true → rb ≡ live
+  pub counts : eqb op DJN ≡ true → rb ≡ target
   pub divides : among (DIV ∷ MOD ∷ []) op ≡ false
   pub tests : (eqb op JMZ && among (modifier.F ∷ modifier.X ∷ modifier.I ∷ []) k) ≡ false
   pub twins : (among (CMP ∷ SEQ ∷ SNE ∷ []) op && eqb k modifier.I && twins ra live) ≡ false
@@ -66,30 +67,31 @@ one-pair k h e =
     let i = neither (eqb k 6) false (x .1) in
     omega (arith, h, eqb-false k 4 (f .0), eqb-false k 5 (x .0), eqb-false k 6 (i .0))
 
-module _ (M : ℕ) (pos : 0 < M) (fits : M ≤ 65536) (pc jump : ℕ) (ra rb : Cell) (ranged : InRange ra) (words : List ℕ) (t : ℕ) (inside : t < length words) where
+module _ (M : ℕ) (pos : 0 < M) (fits : M ≤ 65536) (pc jump : ℕ) (ra rb live : Cell) (ranged : InRange ra) (lives : InRange live)
+    (words : List ℕ) (t : ℕ) (inside : t < length words) where
   small : (x : ℕ) → x % M < 65536
   small x = let h : x % M < M = mod-lt x pos in omega arith
 
-  abbrev live : Cell
-  live = unpacked (getD words t 0)
+  abbrev target : Cell
+  target = unpacked (getD words t 0)
 
   abbrev scene : ℕ → Scene
-  scene k = record { size = M; modifier = k; pc = pc; jump = jump; ra = ra; rb = rb; live = live }
+  scene k = record { size = M; modifier = k; pc = pc; jump = jump; ra = ra; rb = rb; live = live; target = target }
 
   abbrev state : ℕ → State
   state k = record { M = M; modifier = getD modifiers k I; PC = pc; jump = jump; target = t; IRA = ra; IRB = rb; core = map unpacked words }
 
-  -- results stored to the live cell
+  -- results stored to the target
   puts : (k : ℕ) → k < 7 → (v : ℕ → ℕ → ℕ) → ((a b : ℕ) → a < 65536 → v a b < 65536)
-      → map unpacked (set words t (packed (stored (λ a b. some (v a b)) (row k ra rb) live)))
+      → map unpacked (set words t (packed (stored (λ a b. some (v a b)) (row k ra rb) target)))
       ≡ compute (λ b a. some (v a b)) (getD modifiers k I) t ra rb (map unpacked words)
   puts k kl v s =
-      stores words t (row-range ra rb v live s ranged (word-range (getD words t 0)) k kl)
+      stores words t (row-range ra rb v target s ranged (word-range (getD words t 0)) k kl)
       ∙ ap (λ (c : Cell). set (map unpacked words) t (stored (λ a b. some (v a b)) (row k ra rb) c)) (sym (reads words t))
       ∙ row-stored ra rb v (map unpacked words) t (rw (length-map words unpacked) inside) k kl
 
   -- MOV: under I the whole register, where the modes are alike
-  is-move : (k : ℕ) → k < 7 → (eqb k modifier.I && not (eqb (ra .«a_mode») (live .«a_mode») && eqb (ra .«b_mode») (live .«b_mode»))) ≡ false
+  is-move : (k : ℕ) → k < 7 → (eqb k modifier.I && not (eqb (ra .«a_mode») (target .«a_mode») && eqb (ra .«b_mode») (target .«b_mode»))) ≡ false
       → map unpacked (set words t (packed (stored (λ a b. some a) (row k ra rb) (copied (scene k))))) ≡ move (state k) .core
   is-move =
       below _ 7
@@ -99,15 +101,15 @@ module _ (M : ℕ) (pos : 0 < M) (fits : M ≤ 65536) (pc jump : ℕ) (ra rb : C
       and numbers 3 (lit< tt)
       and numbers 4 (lit< tt)
       and numbers 5 (lit< tt)
-      and (λ d. whole (both (eqb (ra .«a_mode») (live .«a_mode»)) (eqb (ra .«b_mode») (live .«b_mode»)) (not-false _ d)))
+      and (λ d. whole (both (eqb (ra .«a_mode») (target .«a_mode»)) (eqb (ra .«b_mode») (target .«b_mode»)) (not-false _ d)))
       and tt)
     where
       numbers : (k : ℕ) → k < 7 → {N : Type 0} → N
-          → map unpacked (set words t (packed (stored (λ a b. some a) (row k ra rb) live))) ≡ compute (λ b a. some a) (getD modifiers k I) t ra rb (map unpacked words)
+          → map unpacked (set words t (packed (stored (λ a b. some a) (row k ra rb) target))) ≡ compute (λ b a. some a) (getD modifiers k I) t ra rb (map unpacked words)
       numbers k kl d = puts k kl (λ a b. a) (λ a b h. h)
 
-      whole : (eqb (ra .«a_mode») (live .«a_mode») ≡ true) × (eqb (ra .«b_mode») (live .«b_mode») ≡ true)
-          → map unpacked (set words t (packed (record { opcode = ra .opcode; modifier = ra .modifier; «a_mode» = live .«a_mode»; «b_mode» = live .«b_mode»; a = ra .a; b = ra .b })))
+      whole : (eqb (ra .«a_mode») (target .«a_mode») ≡ true) × (eqb (ra .«b_mode») (target .«b_mode») ≡ true)
+          → map unpacked (set words t (packed (record { opcode = ra .opcode; modifier = ra .modifier; «a_mode» = target .«a_mode»; «b_mode» = target .«b_mode»; a = ra .a; b = ra .b })))
           ≡ set (map unpacked words) t ra
       whole q =
           ap (λ (c : Cell). map unpacked (set words t (packed c))) (cell-ext {d = ra} refl refl (sym (eqb-true _ _ (q .0))) (sym (eqb-true _ _ (q .1))) refl refl)
@@ -116,9 +118,9 @@ module _ (M : ℕ) (pos : 0 < M) (fits : M ≤ 65536) (pc jump : ℕ) (ra rb : C
   module _ (k : ℕ) (kl : k < 7) where
     -- ADD, SUB, MUL
     is-arithmetic : (v : ℕ → ℕ → ℕ → ℕ) (op : ℕ → ℕ → ℕ) → ((a b : ℕ) → v M a b ≡ op b a % M)
-        → Agree (computes (scene k) (λ size a b. some (v size a b)) live) words t (arithmetic (state k) op)
+        → Agree (computes (scene k) (λ size a b. some (v size a b)) target) words t (arithmetic (state k) op)
     is-arithmetic v op q =
-        rw (row-computes v M pc jump ra rb live live k kl)
+        rw (row-computes v M pc jump ra rb live target target k kl)
         (record {
           core =
               puts k kl (v M) (λ a b h. rw (q a b) (small _))
@@ -127,7 +129,7 @@ module _ (M : ℕ) (pos : 0 < M) (fits : M ≤ 65536) (pc jump : ℕ) (ra rb : C
         })
 
     -- DJN, where the target cell is still the register
-    is-decrement-jump : rb ≡ live → Agree (effectOf DJN (scene k)) words t (decrementJump (state k))
+    is-decrement-jump : rb ≡ target → Agree (effectOf DJN (scene k)) words t (decrementJump (state k))
     unfolding effectOf
     is-decrement-jump q =
         record {
@@ -151,16 +153,16 @@ module _ (M : ℕ) (pos : 0 < M) (fits : M ≤ 65536) (pc jump : ℕ) (ra rb : C
     to-skip x y e =
         record { core = refl; next = one-of x (ahead M pc 2) (ahead M pc 1) ∙ ap (λ (b : Bool). cond b (ahead M pc 2 ∷ []) (ahead M pc 1 ∷ [])) e }
 
-    equals : (eqb k modifier.I || false ≡ true → rb ≡ live) → (eqb k modifier.I && twins ra live) ≡ false → equal (scene k) ≡ Draft.equal (state k)
-    equals u n = row-equal M pc jump ra rb live ranged (word-range (getD words t 0)) k kl (λ q. u (ap (λ (b : Bool). b || false) q)) n
+    equals : (eqb k modifier.I ≡ true → rb ≡ live) → (eqb k modifier.I && twins ra live) ≡ false → equal (scene k) ≡ Draft.equal (state k)
+    equals u n = row-equal M pc jump ra rb live target ranged lives k kl u n
 
     -- the seventeen opcodes: DAT MOV ADD SUB MUL DIV MOD JMP JMZ JMN DJN CMP SEQ SNE SLT SPL NOP
-    pub same-effect : (op : ℕ) → op < 17 → Clear op k ra rb live → Agree (effectOf op (scene k)) words t (execute (getD opcodes op NOP) (state k))
+    pub same-effect : (op : ℕ) → op < 17 → Clear op k ra rb live target → Agree (effectOf op (scene k)) words t (execute (getD opcodes op NOP) (state k))
     unfolding effectOf
     same-effect =
         below _ 17
         ((λ c. record { core = refl; next = refl })
-        and (λ c. rw (row-computes (λ size a b. a) M pc jump ra rb live (copied (scene k)) k kl) (record { core = is-move k kl (c .modes); next = refl }))
+        and (λ c. rw (row-computes (λ size a b. a) M pc jump ra rb live target (copied (scene k)) k kl) (record { core = is-move k kl (c .modes); next = refl }))
         and (λ c. is-arithmetic (λ size a b. ahead size a b) (λ b a. b + a) (λ a b. ap (λ (x : ℕ). x % M) (add-comm a b)))
         and (λ c. is-arithmetic (λ size a b. ahead size b (size - a)) (λ b a. b + (M - a)) (λ a b. refl))
         and (λ c. is-arithmetic (λ size a b. a * b % size) (λ b a. b * a) (λ a b. ap (λ (x : ℕ). x % M) (mul-comm a b)))
@@ -169,10 +171,10 @@ module _ (M : ℕ) (pos : 0 < M) (fits : M ≤ 65536) (pc jump : ℕ) (ra rb : C
         and (λ c. record { core = refl; next = refl })
         and (λ c. to-jump _ _ (row-lone ra rb (λ a b. eqb b 0) k (one-pair k kl (c .tests))))
         and (λ c. to-jump _ _ (row-some ra rb (λ a b. eqb b 0) k kl))
-        and (λ c. is-decrement-jump (c .hits refl))
-        and (λ c. to-skip _ _ (equals (c .hits) (c .twins)))
-        and (λ c. to-skip _ _ (equals (c .hits) (c .twins)))
-        and (λ c. to-skip _ _ (ap not (equals (c .hits) (c .twins))))
+        and (λ c. is-decrement-jump (c .counts refl))
+        and (λ c. to-skip _ _ (equals (c .compares) (c .twins)))
+        and (λ c. to-skip _ _ (equals (c .compares) (c .twins)))
+        and (λ c. to-skip _ _ (ap not (equals (c .compares) (c .twins))))
         and (λ c. to-skip _ _ (row-test ra rb ltb k kl))
         and (λ c. record { core = refl; next = refl })
         and (λ c. record { core = refl; next = refl })

@@ -12,14 +12,15 @@ use lib.ListN.{length, getD}
 use Rattle.laws.specs.Lists.{among}
 use Rattle.laws.proofs.Numbers.{below}
 use Rattle.laws.proofs.Every.{_and_}
-use Rattle.load_file.specs.declared.Cell.{Cell}
-use Rattle.load_file.specs.Offset.{ahead}
-use Rattle.load_file.specs.Types.{Field, A, B}
-use Rattle.load_file.specs.Mode.{PreDecIndirectB, PostIncIndirectA, PostIncIndirectB}
-use Rattle.load_file.specs.Cells.{unpacked, number}
-use Rattle.load_file.proofs.Offsets.{ahead-lt}
-use Rattle.load_file.proofs.Words.{InRange, word-range}
-use Rattle.machine.specs.Pointers.{changed, less, more, operand}
+use Rattle.cell.specs.declared.Cell.{Cell}
+use Rattle.offset.specs.Offset.{ahead}
+use Rattle.types.specs.Types.{Field, A, B}
+use Rattle.types.specs.Mode.{PreDecIndirectB, PostIncIndirectA, PostIncIndirectB}
+use Rattle.cell.specs.Cells.{unpacked, number}
+use Rattle.offset.proofs.Offsets.{ahead-lt}
+use Rattle.cell.proofs.Words.{InRange, word-range}
+use Rattle.machine.specs.State.{ofSize}
+use Rattle.machine.specs.Pointers.{changed, less, more, Site, siteAt, operand}
 use Rattle.machine.proofs.Pointers.{length-operand, changed-same, changed-other}
 use Rattle.draft.specs.Evaluation.{Operand, Fold, at, assign, modes, immediate, direct, indirect, predecrement, postincrement, decrement, evaluate, through}
 use Rattle.draft.specs.Comparison.{unlimited}
@@ -33,11 +34,11 @@ apart i n l hi hn nz e = go (ltb (i + n) l) refl
     go true t = let h : i + n < l = ltb-true _ _ t in let f : i ≡ i + n = e ∙ mod-eq-of-lt h in omega arith
     go false t = let h : l ≤ i + n = ltb-false _ _ t in let f : i ≡ i + n - l = e ∙ mod-eq-sub-mod h ∙ mod-eq-of-lt (omega arith) in omega arith
 
--- a core, a pointer and a register of the machine, and the draft's operand
-pub record Same (M PC : ℕ) (words : List ℕ) (p : ℕ) (c : Cell) (d : Operand) : Type 0 where
+-- a core, the pointers for reading and writing and a register of the machine, and the draft's operand
+pub record Same (M PC : ℕ) (words : List ℕ) (r w : ℕ) (c : Cell) (d : Operand) : Type 0 where
   pub core : map unpacked words ≡ d .core
-  pub read : (PC + d .RP) % M ≡ p
-  pub write : (PC + d .WP) % M ≡ p
+  pub read : (PC + d .RP) % M ≡ r
+  pub write : (PC + d .WP) % M ≡ w
   pub register : d .register ≡ c
 
 seen : (core : List ℕ) (p q : ℕ) → p ≡ q → at (map unpacked core) p ≡ unpacked (getD core q 0)
@@ -48,6 +49,9 @@ module _ (M : ℕ) (pos : 0 < M) (fits : M ≤ 65536) where
   small x = let h : x % M < M = mod-lt x pos in omega arith
 
   module _ (PC n : ℕ) (there : PC < M) where
+    abbrev site : Site
+    site = siteAt (ofSize M) PC
+
     abbrev loc : ℕ
     loc = ahead M PC n
 
@@ -57,7 +61,7 @@ module _ (M : ℕ) (pos : 0 < M) (fits : M ≤ 65536) where
 
     -- through a number x of the cell at the location
     goes-through : (f : Field) (core : List ℕ) (x : ℕ) → number f (unpacked (getD core loc 0)) ≡ x
-        → Same M PC core (ahead M loc x) (unpacked (getD core (ahead M loc x) 0)) (through (unlimited M) (map unpacked core) PC f (Fold n M M) (Fold n M M))
+        → Same M PC core (ahead M loc x) (ahead M loc x) (unpacked (getD core (ahead M loc x) 0)) (through (unlimited M) (map unpacked core) PC f (Fold n M M) (Fold n M M))
     goes-through f core x e = record { core = refl; read = p; write = p; register = seen core _ _ p }
       where
         p : (PC + through (unlimited M) (map unpacked core) PC f (Fold n M M) (Fold n M M) .RP) % M ≡ ahead M loc x
@@ -67,20 +71,20 @@ module _ (M : ℕ) (pos : 0 < M) (fits : M ≤ 65536) where
       inside : loc < length core
       inside = rw long (ahead-lt M PC n pos)
 
-      is-immediate : Same M PC core PC (unpacked (getD core PC 0)) (evaluate (unlimited M) (map unpacked core) PC immediate n)
+      is-immediate : Same M PC core PC PC (unpacked (getD core PC 0)) (evaluate (unlimited M) (map unpacked core) PC immediate n)
       is-immediate = record { core = refl; read = here; write = here; register = seen core _ _ here }
         where
           here : (PC + 0) % M ≡ PC
           here = ap (λ (k : ℕ). k % M) (add-zero PC) ∙ mod-eq-of-lt there
 
-      is-direct : Same M PC core loc (unpacked (getD core loc 0)) (evaluate (unlimited M) (map unpacked core) PC direct n)
+      is-direct : Same M PC core loc loc (unpacked (getD core loc 0)) (evaluate (unlimited M) (map unpacked core) PC direct n)
       is-direct = record { core = refl; read = place-direct PC n M; write = place-direct PC n M; register = seen core _ _ (place-direct PC n M) }
 
       module _ (f : Field) where
         abbrev held : ℕ
         held = number f (unpacked (getD core loc 0))
 
-        is-indirect : Same M PC core (ahead M loc held) (unpacked (getD core (ahead M loc held) 0)) (evaluate (unlimited M) (map unpacked core) PC (indirect f) n)
+        is-indirect : Same M PC core (ahead M loc held) (ahead M loc held) (unpacked (getD core (ahead M loc held) 0)) (evaluate (unlimited M) (map unpacked core) PC (indirect f) n)
         is-indirect = goes-through f core held refl
 
         abbrev lowered : List ℕ
@@ -96,13 +100,13 @@ module _ (M : ℕ) (pos : 0 < M) (fits : M ≤ 65536) where
         lowers-held : number f (unpacked (getD lowered loc 0)) ≡ less M held
         lowers-held = ap (number f) (changed-same f core loc (less M held) inside (small _)) ∙ number-with f (less M held) (unpacked (getD core loc 0))
 
-        is-predecrement : Same M PC lowered (ahead M loc (less M held)) (unpacked (getD lowered (ahead M loc (less M held)) 0))
+        is-predecrement : Same M PC lowered (ahead M loc (less M held)) (ahead M loc (less M held)) (unpacked (getD lowered (ahead M loc (less M held)) 0))
             (evaluate (unlimited M) (map unpacked core) PC (predecrement f) n)
         is-predecrement =
-            subst (λ (cs : List Cell). Same M PC lowered (ahead M loc (less M held)) (unpacked (getD lowered (ahead M loc (less M held)) 0))
+            subst (λ (cs : List Cell). Same M PC lowered (ahead M loc (less M held)) (ahead M loc (less M held)) (unpacked (getD lowered (ahead M loc (less M held)) 0))
             (through (unlimited M) cs PC f (Fold n M M) (Fold n M M))) lowers-core (goes-through f lowered (less M held) lowers-held)
 
-        is-postincrement : Same M PC (changed core loc f (more M held)) (ahead M loc held) (unpacked (getD core (ahead M loc held) 0))
+        is-postincrement : Same M PC (changed core loc f (more M held)) (ahead M loc held) (ahead M loc held) (unpacked (getD core (ahead M loc held) 0))
             (evaluate (unlimited M) (map unpacked core) PC (postincrement f) n)
         is-postincrement =
             record {
@@ -116,8 +120,8 @@ module _ (M : ℕ) (pos : 0 < M) (fits : M ≤ 65536) where
 
       -- the operand of each mode: # $ * @ { < } >
       pub same-operand : (mode : ℕ) → mode < 8
-          → Same M PC (operand M core PC mode n .core) (operand M core PC mode n .pointer) (operand M core PC mode n .register)
-          (evaluate (unlimited M) (map unpacked core) PC (getD modes mode immediate) n)
+          → let o = operand site core mode n in
+          Same M PC (o .core) (o .read) (o .write) (o .register) (evaluate (unlimited M) (map unpacked core) PC (getD modes mode immediate) n)
       unfolding operand
       same-operand =
           below _ 8
@@ -131,20 +135,23 @@ module _ (M : ℕ) (pos : 0 < M) (fits : M ≤ 65536) where
           and is-postincrement B
           and tt)
 
-      pub operand-long : (mode : ℕ) → length (operand M core PC mode n .core) ≡ M
-      operand-long mode = length-operand M core PC mode n ∙ long
+      pub operand-long : (mode : ℕ) → length (operand site core mode n .core) ≡ M
+      operand-long mode = length-operand site core mode n ∙ long
 
-      pub pointer-lt : (mode : ℕ) → mode < 8 → operand M core PC mode n .pointer < M
-      pointer-lt mode h = subst (λ (p : ℕ). p < M) (same-operand mode h .write) (mod-lt _ pos)
+      pub read-lt : (mode : ℕ) → mode < 8 → operand site core mode n .read < M
+      read-lt mode h = subst (λ (p : ℕ). p < M) (same-operand mode h .read) (mod-lt _ pos)
 
-      pub register-range : (mode : ℕ) → InRange (operand M core PC mode n .register)
+      pub write-lt : (mode : ℕ) → mode < 8 → operand site core mode n .write < M
+      write-lt mode h = subst (λ (p : ℕ). p < M) (same-operand mode h .write) (mod-lt _ pos)
+
+      pub register-range : (mode : ℕ) → InRange (operand site core mode n .register)
       unfolding operand
       register-range mode = word-range _
 
       -- the cell at the pointer is still the register, unless an increment hits it
       pub live-register : (mode : ℕ) → mode < 8
-          → (among (PostIncIndirectA ∷ PostIncIndirectB ∷ []) mode && eqb loc (operand M core PC mode n .pointer)) ≡ false
-          → unpacked (getD (operand M core PC mode n .core) (operand M core PC mode n .pointer) 0) ≡ operand M core PC mode n .register
+          → (among (PostIncIndirectA ∷ PostIncIndirectB ∷ []) mode && eqb loc (operand site core mode n .read)) ≡ false
+          → unpacked (getD (operand site core mode n .core) (operand site core mode n .read) 0) ≡ operand site core mode n .register
       unfolding operand
       live-register =
           below _ 8
@@ -166,7 +173,7 @@ module _ (M : ℕ) (pos : 0 < M) (fits : M ≤ 65536) where
       elsewhere x l d = ap (λ (c : Cell). c .b .0) (changed-other B core loc PC x (apart PC n M there l (eqb-false n 0 d)))
 
       pub keeps-b : n < M → (mode : ℕ) → mode < 8 → (among (PreDecIndirectB ∷ PostIncIndirectB ∷ []) mode && eqb n 0) ≡ false
-          → unpacked (getD (operand M core PC mode n .core) PC 0) .b .0 ≡ unpacked (getD core PC 0) .b .0
+          → unpacked (getD (operand site core mode n .core) PC 0) .b .0 ≡ unpacked (getD core PC 0) .b .0
       unfolding operand
       keeps-b l =
           below _ 8

@@ -62,35 +62,35 @@ next-below o s pos j = go o
     go SPL = (mod-lt _ pos, (j, tt))
     go NOP = on
 
-places-push : (e : Entry) (m : Machine) → m .header .head < length (m .queue) → m .header .length < length (m .queue) → e .place .0 < 65536
+places-push : (e : Entry) (m : Machine) → m .header .ring .head < length (m .queue) → m .header .ring .length < length (m .queue) → e .place .0 < 65536
     → places (push e m) ≡ places m ++ (e .place .0 ∷ [])
 places-push e m h l p =
     ap (map (λ w. unpackedEntry w .place .0)) (entries-push e m h l) ∙ map-append (λ w. unpackedEntry w .place .0) (entries m) (packedEntry e ∷ [])
     ∙ ap (λ (q : ℕ). places m ++ (q ∷ [])) (packed-place e p)
 
-places-started : (c i : ℕ) (m : Machine) → m .header .head < length (m .queue) → m .header .length < length (m .queue) → c < 65536
+places-started : (c i : ℕ) (m : Machine) → m .header .ring .head < length (m .queue) → m .header .ring .length < length (m .queue) → c < 65536
     → places (started c i m) ≡ places m ++ (c ∷ [])
 unfolding started numbered entries
 places-started c i m h l p = places-push (entry c (getD (m .header .threads) i 0) i) (holding (m .core) (numbered i (m .header)) m) h l p
 
 -- pushing leaves the head and the limit, and makes the length one more
 record Pushed (m n : Machine) : Type 0 where
-  head : n .header .head ≡ m .header .head
+  head : n .header .ring .head ≡ m .header .ring .head
   limit : length (n .queue) ≡ length (m .queue)
-  length : n .header .length ≡ m .header .length + 1
+  length : n .header .ring .length ≡ m .header .ring .length + 1
 
 pushed : (e : Entry) (m : Machine) → Pushed m (push e m)
 unfolding push
 pushed e m = record { head = refl; limit = length-set (m .queue) _ _; length = refl }
 
 -- what is queued of a next
-pub places-queued : (x : Next) (e : Entry) (m : Machine) → m .header .head < length (m .queue) → m .header .length < length (m .queue)
-    → Below 65536 (nexts x) → places (queued x e m .machine) ≡ places m ++ take (length (m .queue) - m .header .length) (nexts x)
-places-queued (ends y) e m h l b = sym (ap (λ (ps : List ℕ). places m ++ ps) (take-nil (length (m .queue) - m .header .length)) ∙ append-nil (places m))
+pub places-queued : (x : Next) (e : Entry) (m : Machine) → m .header .ring .head < length (m .queue) → m .header .ring .length < length (m .queue)
+    → Below 65536 (nexts x) → places (queued x e m .machine) ≡ places m ++ take (length (m .queue) - m .header .ring .length) (nexts x)
+places-queued (ends y) e m h l b = sym (ap (λ (ps : List ℕ). places m ++ ps) (take-nil (length (m .queue) - m .header .ring .length)) ∙ append-nil (places m))
 places-queued (goes p) e m h l b =
     places-push (entry p (e .thread) (e .name)) m h l (b .0)
-    ∙ ap (λ (ps : List ℕ). places m ++ ps) (sym (take-all (length (m .queue) - m .header .length) (p ∷ []) (omega arith)))
-places-queued (splits p c) e m h l b = go (full n) refl
+    ∙ ap (λ (ps : List ℕ). places m ++ ps) (sym (take-all (length (m .queue) - m .header .ring .length) (p ∷ []) (omega arith)))
+places-queued (splits p c) e m h l b = go (full n (e .name)) refl
   where
     n : Machine
     n = push (entry p (e .thread) (e .name)) m
@@ -101,16 +101,16 @@ places-queued (splits p c) e m h l b = go (full n) refl
     one : places n ≡ places m ++ (p ∷ [])
     one = places-push (entry p (e .thread) (e .name)) m h l (b .0)
 
-    go : (t : Bool) → full n ≡ t
+    go : (t : Bool) → full n (e .name) ≡ t
         → places (cond {A = Queued} t (record { machine = n; pushes = 1 }) (record { machine = started c (e .name) n; pushes = 2 }) .machine)
-        ≡ places m ++ take (length (m .queue) - m .header .length) (p ∷ c ∷ [])
+        ≡ places m ++ take (length (m .queue) - m .header .ring .length) (p ∷ c ∷ [])
     go true f =
-        let g : length (n .queue) ≤ n .header .length = leb-true _ _ f in
-        let r : length (m .queue) - m .header .length ≡ 1 = omega (arith, i .limit, i .length) in
+        let g : length (n .queue) ≤ n .header .ring .length = leb-true _ _ f in
+        let r : length (m .queue) - m .header .ring .length ≡ 1 = omega (arith, i .limit, i .length) in
         one ∙ sym (ap (λ (k : ℕ). places m ++ take k (p ∷ c ∷ [])) r)
     go false f =
-        let g : n .header .length < length (n .queue) = leb-false _ _ f in
+        let g : n .header .ring .length < length (n .queue) = leb-false _ _ f in
         places-started c (e .name) n (omega (arith, i .head, i .limit)) g (b .1 .0)
         ∙ ap (λ (ps : List ℕ). ps ++ (c ∷ [])) one
         ∙ append-assoc (places m) (p ∷ []) (c ∷ [])
-        ∙ ap (λ (ps : List ℕ). places m ++ ps) (sym (take-all (length (m .queue) - m .header .length) (p ∷ c ∷ []) (omega (arith, i .limit, i .length))))
+        ∙ ap (λ (ps : List ℕ). places m ++ ps) (sym (take-all (length (m .queue) - m .header .ring .length) (p ∷ c ∷ []) (omega (arith, i .limit, i .length))))

@@ -10,10 +10,10 @@ use lib.Seq.{getD-set-same, set-set}
 use Rattle.laws.specs.Lists.{every}
 use Rattle.laws.proofs.Numbers.{below}
 use Rattle.laws.proofs.Every.{_and_}
-use Rattle.load_file.specs.declared.Cell.{Cell}
-use Rattle.load_file.specs.Types.{Field, A, B}
-use Rattle.load_file.specs.Cells.{withNumber}
-use Rattle.load_file.proofs.Words.{InRange, with-range}
+use Rattle.cell.specs.declared.Cell.{Cell}
+use Rattle.types.specs.Types.{Field, A, B}
+use Rattle.cell.specs.Cells.{withNumber}
+use Rattle.cell.proofs.Words.{InRange, with-range}
 use Rattle.machine.specs.Execution.{stored}
 use Rattle.machine.proofs.Execution.{row}
 use Rattle.draft.specs.Evaluation.{at, assign}

@@ -2,30 +2,24 @@
 -- Assumes nothing.
 use Prim.Native.Nat.{ℕ, _<_}
 use mathlib.Core.Path.{_≡_, refl, sym, ap, _∙_, subst}
-use mathlib.Core.Bool.{Bool, true, false, _&&_, _||_, and-true, true≢false, false≢true}
+use mathlib.Core.Bool.{Bool, true, false, _&&_, _||_, and-true, true≢false}
 use lib.Dec.{eqb, lit<}
 use lib.ListN.{getD}
 use borrow.Author.Tests.{eqb-true, eq-eqb}
 use Rattle.laws.specs.Lists.{every}
-use Rattle.laws.proofs.Tests.{both}
+use Rattle.laws.proofs.Tests.{both, iff}
 use Rattle.laws.proofs.Numbers.{below}
 use Rattle.laws.proofs.Every.{_and_}
-use Rattle.load_file.specs.declared.Cell.{Cell}
-use Rattle.load_file.specs.Opcode.{CMP, SEQ}
-use Rattle.load_file.specs.Modifier as modifier
-use Rattle.load_file.specs.Cells.{packed, unpacked}
-use Rattle.load_file.proofs.Words.{InRange, cell-ext, unpack-pack}
+use Rattle.cell.specs.declared.Cell.{Cell}
+use Rattle.types.specs.Opcode.{CMP, SEQ}
+use Rattle.types.specs.Modifier as modifier
+use Rattle.cell.specs.Cells.{packed, unpacked}
+use Rattle.cell.proofs.Words.{InRange, cell-ext, unpack-pack}
 use Rattle.machine.specs.Execution.{equal}
 use Rattle.machine.proofs.Execution.{row}
 use Rattle.draft.specs.Draft.{modifiers, I, test, under, oneCode, sameInstruction}
 use Rattle.draft.specs.Departures.{twins}
 use Rattle.draft.proofs.Rows.{row-test}
-
-iff : (x y : Bool) → (x ≡ true → y ≡ true) → (y ≡ true → x ≡ true) → x ≡ y
-iff true true f g = refl
-iff true false f g = absurd (false≢true (f refl))
-iff false true f g = absurd (false≢true (g refl))
-iff false false f g = refl
 
 -- codes that the draft takes for one are one, but for CMP and SEQ
 one-code : (x y : ℕ) → (eqb x CMP && eqb y SEQ || eqb x SEQ && eqb y CMP) ≡ false → oneCode x ≡ oneCode y → x ≡ y
@@ -73,13 +67,13 @@ whole c d r s n = iff (numbers c d && eqb (packed c) (packed d)) (sameInstructio
         subst (λ (x : Cell). (numbers c x && eqb (packed c) (packed x)) ≡ true) (same-cell c d n e)
         (rw (eq-eqb (c .a .0) (c .a .0) refl, eq-eqb (c .b .0) (c .b .0) refl, eq-eqb (packed c) (packed c) refl))
 
--- CMP, SEQ, SNE: the machine's comparison is the draft's where under I the target cell is still the register and no CMP meets a SEQ
-pub row-equal : (M pc jump : ℕ) (ra rb live : Cell) → InRange ra → InRange live → (k : ℕ) → k < 7
+-- CMP, SEQ, SNE: the machine's comparison is the draft's where under I the live cell is still the register and no CMP meets a SEQ
+pub row-equal : (M pc jump : ℕ) (ra rb live target : Cell) → InRange ra → InRange live → (k : ℕ) → k < 7
     → (eqb k modifier.I ≡ true → rb ≡ live)
     → (eqb k modifier.I && twins ra live) ≡ false
-    → equal (record { size = M; modifier = k; pc = pc; jump = jump; ra = ra; rb = rb; live = live })
+    → equal (record { size = M; modifier = k; pc = pc; jump = jump; ra = ra; rb = rb; live = live; target = target })
     ≡ under (getD modifiers k I) (sameInstruction ra rb) (test eqb (getD modifiers k I) ra rb)
-row-equal M pc jump ra rb live r s =
+row-equal M pc jump ra rb live target r s =
     below _ 7
     (plainly 0 (lit< tt)
     and plainly 1 (lit< tt)

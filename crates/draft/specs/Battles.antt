@@ -5,18 +5,19 @@ use mathlib.Core.Bool.{Bool, true, false, cond, not, _&&_}
 use mathlib.Core.List.{List, [], _∷_, _++_, map}
 use lib.ListN.{take}
 use Rattle.laws.specs.Lists.{same}
-use Rattle.load_file.specs.Cells.{packed, freshCell, soundWord}
-use Rattle.load_file.specs.Opcode.{MOV, DIV, MOD, JMZ, DJN, CMP, SEQ, SPL}
-use Rattle.load_file.specs.Modifier as modifier
-use Rattle.load_file.specs.Mode as mode
+use Rattle.cell.specs.Cells.{packed, freshCell, soundWord}
+use Rattle.types.specs.Opcode.{MOV, DIV, MOD, JMZ, DJN, CMP, SEQ, SPL}
+use Rattle.types.specs.Modifier as modifier
+use Rattle.types.specs.Mode as mode
 use Rattle.program.specs.Program.{lawful, lowestFault, cells}
 use Rattle.machine.specs.Names.{register, numbered}
 use Rattle.machine.specs.Queue.{entries, pop, push, started}
 use Rattle.machine.specs.Soundness.{soundHeader, soundEntry}
-use Rattle.machine.specs.Load.{fresh, loaded, load}
+use Rattle.machine.specs.Fresh.{fresh}
+use Rattle.machine.specs.Load.{loaded, load}
 use Rattle.machine.specs.Pointers.{operand}
 use Rattle.machine.specs.Execution.{effectOf}
-use Rattle.machine.specs.Step.{effect, coreAfter, stepWrites, counted, executed, step}
+use Rattle.machine.specs.Step.{effect, coreAfter, stepWritten, counted, executed, step}
 use Rattle.machine.specs.Battles.{bytes, word, datum, cell, board}
 use Rattle.draft.specs.Draft
 use Rattle.draft.specs.Comparison.{drafted, places}
@@ -41,7 +42,7 @@ numbersFrom i [] = []
 numbersFrom i (b ∷ bs) = cond b (i ∷ numbersFrom (suc i) bs) (numbersFrom (suc i) bs)
 
 unfoldable pub seen : List ℕ → Seen
-unfolding soundWord lawful lowestFault cells register numbered entries pop push started soundHeader soundEntry fresh loaded load operand effectOf effect coreAfter stepWrites counted executed step Draft.step
+unfolding soundWord lawful lowestFault cells register numbered entries pop push started soundHeader soundEntry fresh loaded load operand effectOf effect coreAfter stepWritten counted executed step Draft.step
 seen warrior =
     let m = board 8 8 warrior in
     record {

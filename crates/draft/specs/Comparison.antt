@@ -3,8 +3,8 @@
 use Prim.Native.Nat.{ℕ, _-_}
 use mathlib.Core.List.{List, map}
 use lib.ListN.{length}
-use Rattle.load_file.specs.declared.Cell.{Cell}
-use Rattle.load_file.specs.Cells.{unpacked}
+use Rattle.cell.specs.declared.Cell.{Cell}
+use Rattle.cell.specs.Cells.{unpacked}
 use Rattle.machine.specs.State.{Machine}
 use Rattle.machine.specs.Queue.{unpackedEntry, entries}
 use Rattle.machine.specs.Step.{pc}
@@ -21,7 +21,7 @@ unlimited size = record { M = size; ReadLimit = size; WriteLimit = size }
 
 -- the draft's step of the machine's core, from the front entry's place
 abbrev pub drafted : Machine → Done
-drafted m = step (unlimited (m .header .size)) (cells m) (pc m)
+drafted m = step (unlimited (m .header .rules .size)) (cells m) (pc m)
 
 -- the places queued, in order
 abbrev pub places : Machine → List ℕ
@@ -29,4 +29,4 @@ places m = map (λ w. unpackedEntry w .place .0) (entries m)
 
 -- how many entries the process limit has room for once the front entry is popped
 abbrev pub room : Machine → ℕ
-room m = length (m .queue) - (m .header .length - 1)
+room m = length (m .queue) - (m .header .ring .length - 1)

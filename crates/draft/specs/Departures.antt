@@ -5,19 +5,19 @@ use mathlib.Core.Bool.{Bool, not, _&&_, _||_}
 use mathlib.Core.List.{[], _∷_}
 use lib.Dec.{eqb}
 use Rattle.laws.specs.Lists.{among}
-use Rattle.load_file.specs.declared.Cell.{Cell}
-use Rattle.load_file.specs.Offset.{ahead}
-use Rattle.load_file.specs.Opcode.{MOV, DIV, MOD, JMZ, DJN, CMP, SEQ, SNE}
-use Rattle.load_file.specs.Modifier.{F, X, I}
-use Rattle.load_file.specs.Mode.{PreDecIndirectB, PostIncIndirectA, PostIncIndirectB}
+use Rattle.cell.specs.declared.Cell.{Cell}
+use Rattle.offset.specs.Offset.{ahead}
+use Rattle.types.specs.Opcode.{MOV, DIV, MOD, JMZ, DJN, CMP, SEQ, SNE}
+use Rattle.types.specs.Modifier.{F, X, I}
+use Rattle.types.specs.Mode.{PreDecIndirectB, PostIncIndirectA, PostIncIndirectB}
 use Rattle.machine.specs.State.{Machine}
 use Rattle.machine.specs.Execution.{Scene}
 use Rattle.machine.specs.Instruction.{fetched, sceneAt}
-use Rattle.machine.specs.Step.{pc, instruction, operandA, operandB}
+use Rattle.machine.specs.Step.{pc, site, instruction, operandA, operandB}
 
--- the machine's registers and live target cell
+-- the machine's registers, its live cell and its target
 abbrev pub scene : Machine → Scene
-scene m = sceneAt (m .header .size) (m .core) (pc m)
+scene m = sceneAt (site m) (m .core)
 
 -- CMP, SEQ, SNE under I
 abbrev pub comparesWhole : Cell → Bool
@@ -32,16 +32,16 @@ abbrev pub keepsModes : Machine → Bool
 keepsModes m =
     let s = scene m in
     eqb (instruction m .opcode) MOV && eqb (instruction m .modifier) I
-    && not (eqb (s .ra .«a_mode») (s .live .«a_mode») && eqb (s .ra .«b_mode») (s .live .«b_mode»))
+    && not (eqb (s .ra .«a_mode») (s .target .«a_mode») && eqb (s .ra .«b_mode») (s .target .«b_mode»))
 
 -- 3. CMP, SEQ, SNE under I, or DJN, when B's increment hits the target cell: it is made at B's location, the target is at the B pointer
 abbrev pub locationB : Machine → ℕ
-locationB m = ahead (m .header .size) (pc m) (fetched (operandA m .core) (pc m) .b .0)
+locationB m = ahead (m .header .rules .size) (pc m) (fetched (operandA m .core) (pc m) .b .0)
 
 abbrev pub hitsTarget : Machine → Bool
 hitsTarget m =
     (comparesWhole (instruction m) || eqb (instruction m .opcode) DJN)
-    && (among (PostIncIndirectA ∷ PostIncIndirectB ∷ []) (instruction m .«b_mode») && eqb (locationB m) (operandB m .pointer))
+    && (among (PostIncIndirectA ∷ PostIncIndirectB ∷ []) (instruction m .«b_mode») && eqb (locationB m) (operandB m .read))
 
 -- 4. DIV, MOD
 abbrev pub divides : Machine → Bool

@@ -6,9 +6,9 @@ use mathlib.Core.List.{List, [], _∷_}
 use mathlib.Core.Option.{Option, none, some}
 use lib.Dec.{eqb, ltb}
 use lib.ListN.{getD, set}
-use Rattle.load_file.specs.declared.Cell.{Cell}
-use Rattle.load_file.specs.Types.{Field}
-use Rattle.load_file.specs.Opcode as opcode
+use Rattle.cell.specs.declared.Cell.{Cell}
+use Rattle.types.specs.Types.{Field}
+use Rattle.types.specs.Opcode as opcode
 use Rattle.draft.specs.Evaluation.{ANumber, BNumber, modes, immediate, Rules, at, assign, Operand, evaluate}
 
 pub data Opcode : Type 0 where

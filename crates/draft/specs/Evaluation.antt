@@ -5,10 +5,10 @@ use mathlib.Core.Bool.{cond}
 use mathlib.Core.List.{List, [], _∷_}
 use lib.Dec.{ltb}
 use lib.ListN.{getD, set}
-use Rattle.load_file.specs.declared.Cell.{Cell}
-use Rattle.load_file.specs.Cells.{relative, number, withNumber}
-use Rattle.load_file.specs.Types.{Field}
-use Rattle.load_file.specs.Types
+use Rattle.cell.specs.declared.Cell.{Cell}
+use Rattle.cell.specs.Cells.{relative, number, withNumber}
+use Rattle.types.specs.Types.{Field}
+use Rattle.types.specs.Types
 
 -- the draft's names of a cell's two numbers
 abbrev pub ANumber : Field

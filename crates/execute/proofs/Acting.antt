@@ -14,26 +14,27 @@ use borrow.Author.Tests.{ne-eqb}
 use Rattle.laws.specs.Lists.{every}
 use Rattle.laws.proofs.Cases.{span}
 use Rattle.laws.proofs.Tests.{both}
-use Rattle.load_file.specs.declared.Cell.{Cell}
-use Rattle.load_file.specs.Offset.{ahead}
-use Rattle.load_file.specs.Cells.{packed, unpacked, withNumber}
-use Rattle.load_file.proofs.Words.{word-range, unpack-pack}
+use Rattle.cell.specs.declared.Cell.{Cell}
+use Rattle.offset.specs.Offset.{ahead}
+use Rattle.cell.specs.Cells.{packed, unpacked, withNumber}
+use Rattle.cell.proofs.Words.{word-range, unpack-pack}
 use Rattle.machine.specs.Execution as machine
 use Rattle.machine.specs.Execution.{Scene, Effect, ends, goes, divisor, mets, some?, computes, stored, put, isNone, effects, effectOf}
 use Rattle.machine.specs.Pointers.{less}
-use Rattle.machine.specs.Instruction.{storeTo, storeWrites}
+use Rattle.machine.specs.Instruction.{storeTo}
 use Rattle.execute.specs.declared.Executed.{Executed}
 use Rattle.execute.specs.declared.Executed.the-variants.{Goes, Splits, Dat, DivideByZero}
 use Rattle.execute.specs.declared.modifier.Met.{Met}
 use Rattle.execute.specs.Instruction.{answered}
 use Rattle.execute.specs.Words.{fieldBy, copyOf}
-use Rattle.execute.specs.Acts.{metOf, Below, valueBy, sceneOf, Answers, Does, Set}
+use Rattle.execute.specs.Operands.{absolute}
+use Rattle.execute.specs.Acts.{metOf, Below, valueBy, sceneOf, storeWrites, Answers, Does, SoundScene}
 use Rattle.execute.proofs.Cells.{whole}
 use Rattle.execute.proofs.FieldPairs.{Shape, shape, every-two, some-two, stored-two, met-below}
 use Rattle.execute.proofs.Arithmetic.{none-is, part-is, put-range}
 
 -- the effect by ranges of opcodes
-computes-at : (op : ℕ) (s : Scene) → 2 ≤ op → op < 7 → effectOf op s ≡ computes s (valueBy op) (s .live)
+computes-at : (op : ℕ) (s : Scene) → 2 ≤ op → op < 7 → effectOf op s ≡ computes s (valueBy op) (s .target)
 unfolding effectOf
 computes-at op s l h = span op 2 5 l h (λ e. rw e, (λ e. rw e, (λ e. rw e, (λ e. rw e, (λ e. rw e, tt)))))
 
@@ -48,7 +49,7 @@ two-on size pc e f = f ∙ rw (e, mod-add-mod) (ap (λ (n : ℕ). n % size) sum-
     sum-two : pc + 1 + 1 ≡ pc + 2
     sum-two = omega arith
 
-moved-fields : (s : Scene) → (s .modifier ≡ 6 → ⊥) → effectOf 1 s ≡ computes s machine.moved (s .live)
+moved-fields : (s : Scene) → (s .modifier ≡ 6 → ⊥) → effectOf 1 s ≡ computes s machine.moved (s .target)
 unfolding effectOf
 moved-fields s n = simp (ne-eqb (s .modifier) 6 n)
 
@@ -79,9 +80,9 @@ module _ (size : ℕ) (core : List ℕ) (k pc jump target ra rb w : ℕ) where
       → l ≡ storeTo (e .cell) core target → Does op scene core target w r l
   does op e q x y = (rw q x, rw q y)
 
-  module _ (ok : Set size core k pc target ra rb w) where
+  module _ (ok : SoundScene size core k pc target ra rb w) where
     pub move-whole : k ≡ 6 → (next word : ℕ) → next ≡ ahead size pc 1 → word ≡ packed (copyOf (unpacked (getD core target 0)) (unpacked ra))
-        → Does 1 scene core target w (Goes next (w + 1)) (set core target word)
+        → Does 1 scene core target w (Goes (absolute next) (w + 1)) (set core target word)
     move-whole e next word en ew =
         does 1 _ (ap (λ (x : ℕ). effectOf 1 (sceneOf size x pc jump ra rb (getD core target 0))) e ∙ moved-whole size pc jump ra rb (getD core target 0)) (rw en) (rw ew)
 
@@ -92,10 +93,10 @@ module _ (size : ℕ) (core : List ℕ) (k pc jump target ra rb w : ℕ) where
       pub below : Below size p
       below = met-below size k ra rb p ep (ok .soundA) (ok .soundB)
 
-      computed : (op : ℕ) (f : ℕ → ℕ → ℕ → Option ℕ) → effectOf op scene ≡ computes scene f (scene .live)
+      computed : (op : ℕ) (f : ℕ → ℕ → ℕ → Option ℕ) → effectOf op scene ≡ computes scene f (scene .target)
           → (v1 v2 next word : ℕ) → some v1 ≡ f size (p .a1 .0) (p .b1 .0) → some v2 ≡ f size (p .a2 .0) (p .b2 .0) → next ≡ ahead size pc 1
           → word ≡ packed (withNumber (fieldBy (p .t2)) v2 (withNumber (fieldBy (p .t1)) v1 (unpacked (getD core target 0))))
-          → Does op scene core target w (Goes next (w + 1)) (set core target word)
+          → Does op scene core target w (Goes (absolute next) (w + 1)) (set core target word)
       computed op f ee v1 v2 next word e1 e2 en ew = does op _ (ee ∙ known) (rw en) (rw ew)
         where
           stores : some? (λ x. not (isNone (f size (x .a) (x .b)))) scene ≡ true
@@ -107,19 +108,19 @@ module _ (size : ℕ) (core : List ℕ) (k pc jump target ra rb w : ℕ) where
           filled : stored (f size) (mets scene) (scene .live) ≡ withNumber (fieldBy (p .t2)) v2 (withNumber (fieldBy (p .t1)) v1 (unpacked (getD core target 0)))
           filled = stored-two scene p shaped (f size) (scene .live) ∙ rw (← e1, ← e2)
 
-          known : computes scene f (scene .live)
+          known : computes scene f (scene .target)
               ≡ record { cell = some (withNumber (fieldBy (p .t2)) v2 (withNumber (fieldBy (p .t1)) v1 (unpacked (getD core target 0)))); next = goes (ahead size pc 1) }
           known = λ i. record { cell = cond (stores i) (some (filled i)) none; next = cond (no-zero i) (ends divisor) (goes (ahead size pc 1)) }
 
       pub move-fields : (k ≡ 6 → ⊥) → (next word : ℕ) → next ≡ ahead size pc 1
           → word ≡ packed (withNumber (fieldBy (p .t2)) (p .a2 .0) (withNumber (fieldBy (p .t1)) (p .a1 .0) (unpacked (getD core target 0))))
-          → Does 1 scene core target w (Goes next (w + 1)) (set core target word)
+          → Does 1 scene core target w (Goes (absolute next) (w + 1)) (set core target word)
       move-fields n next word en ew = computed 1 machine.moved (moved-fields scene n) (p .a1 .0) (p .a2 .0) next word refl refl en ew
 
       pub summed : (op : ℕ) → 2 ≤ op → op < 5 → (v1 v2 next word : ℕ) → some v1 ≡ valueBy op size (p .a1 .0) (p .b1 .0)
           → some v2 ≡ valueBy op size (p .a2 .0) (p .b2 .0) → next ≡ ahead size pc 1
           → word ≡ packed (withNumber (fieldBy (p .t2)) v2 (withNumber (fieldBy (p .t1)) v1 (unpacked (getD core target 0))))
-          → Does op scene core target w (Goes next (w + 1)) (set core target word)
+          → Does op scene core target w (Goes (absolute next) (w + 1)) (set core target word)
       summed op l u = computed op (valueBy op) (computes-at op scene l (omega arith))
 
       module _ (op : ℕ) (l : 5 ≤ op) (u : op < 7) where
@@ -185,13 +186,13 @@ module _ (size : ℕ) (core : List ℕ) (k pc jump target ra rb w : ℕ) where
           one-zero e = does op _ (divided false true some-left e) refl (ap (set core target) (parts half word eh ew))
 
           pub no-zero : (eqb (p .b1 .0) 0 || eqb (p .b2 .0) 0) ≡ false → (next : ℕ) → next ≡ ahead size pc 1
-              → Does op scene core target w (Goes next (w + 1)) (set core target word)
+              → Does op scene core target w (Goes (absolute next) (w + 1)) (set core target word)
           no-zero e next en = does op _ (divided false false some-left e) (rw en) (ap (set core target) (parts half word eh ew))
 
       pub counted : (n1 n2 word : ℕ) → n1 ≡ less size (p .b1 .0) → n2 ≡ less size (p .b2 .0)
           → word ≡ packed (withNumber (fieldBy (p .t2)) n2 (withNumber (fieldBy (p .t1)) n1 (unpacked (getD core target 0))))
           → (g : Bool) → (not (eqb n1 0) || not (eqb n2 0)) ≡ g → (r : ℕ) → r ≡ cond g jump (ahead size pc 1)
-          → Does 10 scene core target w (Goes r (w + 1)) (set core target word)
+          → Does 10 scene core target w (Goes (absolute r) (w + 1)) (set core target word)
       counted n1 n2 word e1 e2 ew g eg r er = does 10 _ (counts-at scene ∙ known) (rw er) (rw ew)
         where
           some-left : some? (λ x. not (eqb (less size (x .b)) 0)) scene ≡ g
@@ -214,21 +215,21 @@ module _ (size : ℕ) (core : List ℕ) (k pc jump target ra rb w : ℕ) where
 
       pub skipped : (op : ℕ) → 11 ≤ op → op < 15 → (g : Bool)
           → cond (eqb op 14) (ltb (p .a1 .0) (p .b1 .0) && ltb (p .a2 .0) (p .b2 .0)) (cond (eqb op 13) (not same) same) ≡ g
-          → (r : ℕ) → r ≡ cond g (ahead size pc 2) (ahead size pc 1) → Does op scene core target w (Goes r w) core
+          → (r : ℕ) → r ≡ cond g (ahead size pc 2) (ahead size pc 1) → Does op scene core target w (Goes (absolute r) w) core
       skipped op l u g eg r er =
           does op (machine.skip scene g) (skips-at op scene g l u (rw (every-two scene p shaped (λ x. ltb (x .a) (x .b)), equal-is) eg))
-          (ap (λ (n : ℕ). Goes n w) er ∙ ap (Goes (cond g (ahead size pc 2) (ahead size pc 1))) (sym (add-zero w))) refl
+          (ap (λ (n : ℕ). Goes (absolute n) w) er ∙ ap (Goes (absolute (cond g (ahead size pc 2) (ahead size pc 1)))) (sym (add-zero w))) refl
 
 -- JMZ and JMN
 pub jumped : (size k pc jump ra rb w op : ℕ) → k ≤ 6 → 8 ≤ op → op < 10 → (p : Met) → p ≡ metOf k ra rb → (g : Bool)
     → cond (eqb op 8) (eqb (p .b1 .0) 0 || eqb (p .b2 .0) 0) (not (eqb (p .b1 .0) 0) || not (eqb (p .b2 .0) 0)) ≡ g
-    → (r : ℕ) → r ≡ cond g jump (ahead size pc 1) → Answers op (sceneOf size k pc jump ra rb 0) w (Goes r w)
+    → (r : ℕ) → r ≡ cond g jump (ahead size pc 1) → Answers op (sceneOf size k pc jump ra rb 0) w (Goes (absolute r) w)
 unfolding effectOf
 jumped size k pc jump ra rb w op row l u p ep g eg r er =
-    ap (λ (n : ℕ). Goes n w) er ∙ ap (Goes (cond g jump (ahead size pc 1))) (sym (add-zero w))
+    ap (λ (n : ℕ). Goes (absolute n) w) er ∙ ap (Goes (absolute (cond g jump (ahead size pc 1)))) (sym (add-zero w))
     ∙ span op 8 2 l u (
-      λ e. rw e (ap (λ (b : Bool). Goes (cond b jump (ahead size pc 1)) (w + 0)) (sym (some-two s p sh (λ x. eqb (x .b) 0) ∙ rw e at eg))),
-      (λ e. rw e (ap (λ (b : Bool). Goes (cond b jump (ahead size pc 1)) (w + 0)) (sym (some-two s p sh (λ x. not (eqb (x .b) 0)) ∙ rw e at eg))), tt),
+      λ e. rw e (ap (λ (b : Bool). Goes (absolute (cond b jump (ahead size pc 1))) (w + 0)) (sym (some-two s p sh (λ x. eqb (x .b) 0) ∙ rw e at eg))),
+      (λ e. rw e (ap (λ (b : Bool). Goes (absolute (cond b jump (ahead size pc 1))) (w + 0)) (sym (some-two s p sh (λ x. not (eqb (x .b) 0)) ∙ rw e at eg))), tt),
     )
   where
     s : Scene
@@ -267,22 +268,17 @@ module _ (size : ℕ) (core : List ℕ) (k pc jump target ra rb w : ℕ) where
   unfolding effectOf
   data-ends op e = rw e (ap Dat (sym (add-zero w)), refl)
 
-  pub jump-goes : (op : ℕ) → op ≡ 7 → its op (Goes jump w) core
+  pub jump-goes : (op : ℕ) → op ≡ 7 → its op (Goes (absolute jump) w) core
   unfolding effectOf
-  jump-goes op e = rw e (ap (Goes jump) (sym (add-zero w)), refl)
+  jump-goes op e = rw e (ap (Goes (absolute jump)) (sym (add-zero w)), refl)
 
-  pub split-goes : (op : ℕ) → op ≡ 15 → its op (Splits jump w) core
+  pub split-goes : (op : ℕ) → op ≡ 15 → {next : ℕ} → next ≡ ahead size pc 1 → its op (Splits (absolute next) (absolute jump) w) core
   unfolding effectOf
-  split-goes op e = rw e (ap (Splits jump) (sym (add-zero w)), refl)
+  split-goes op e en = rw (e, en) (ap (Splits _ (absolute jump)) (sym (add-zero w)), refl)
 
-  pub rest-goes : (op : ℕ) → 16 ≤ op → {next : ℕ} → next ≡ ahead size pc 1 → its op (Goes next w) core
+  pub nop-goes : (op : ℕ) → op ≡ 16 → {next : ℕ} → next ≡ ahead size pc 1 → its op (Goes (absolute next) w) core
   unfolding effectOf
-  rest-goes op l en = rw (nothing op l, en) (ap (Goes _) (sym (add-zero w)), refl)
-    where
-      nothing : (op : ℕ) → 16 ≤ op → getD (effects (sceneOf size k pc jump ra rb (getD core target 0))) op (machine.going (ahead size pc 1)) ≡ machine.going (ahead size pc 1)
-      nothing op l =
-          ⊎-elim (λ e. ap (λ (n : ℕ). getD (effects (sceneOf size k pc jump ra rb (getD core target 0))) n (machine.going (ahead size pc 1))) (sym e))
-          (λ g. List·getD-eq-default (effects (sceneOf size k pc jump ra rb (getD core target 0))) (machine.going (ahead size pc 1)) g) (eq-or-lt-of-le l)
+  nop-goes op e en = rw (e, en) (ap (Goes _) (sym (add-zero w)), refl)
 
 -- the same opcode and modifier by other names
 pub told : (size : ℕ) (core : List ℕ) (pc jump target ra rb w : ℕ) {op op' k k' : ℕ} → op ≡ op' → k ≡ k' → {r : Executed} {l : List ℕ}

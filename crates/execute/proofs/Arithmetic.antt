@@ -10,10 +10,10 @@ use lib.Dec.{eqb}
 use borrow.Author.Tests.{ne-eqb}
 use Rattle.laws.proofs.Cases.{span}
 use Rattle.laws.proofs.Modulo.{mod-small}
-use Rattle.load_file.specs.declared.Cell.{Cell}
-use Rattle.load_file.specs.Types.{Field}
-use Rattle.load_file.specs.Cells.{packed, unpacked, withNumber}
-use Rattle.load_file.proofs.Words.{InRange, with-range}
+use Rattle.cell.specs.declared.Cell.{Cell}
+use Rattle.types.specs.Types.{Field}
+use Rattle.cell.specs.Cells.{packed, unpacked, withNumber}
+use Rattle.cell.proofs.Words.{InRange, with-range}
 use Rattle.machine.specs.Execution.{put, isNone}
 use Rattle.execute.specs.Words.{Reduced}
 use Rattle.execute.specs.Acts.{valueBy}

@@ -1,30 +1,31 @@
 -- Laws of words and sums: a cell with another number, the copied cell, what a sound word holds.
 -- Assumes nothing.
 use mathlib.Core.Path.{_≡_, sym, ap, _∙_}
-use mathlib.Core.Bool.{true}
-use Prim.Native.Nat.{ℕ, _+_, _-_, _*_, _/_, _%_, _^_, _≤_, _<_}
+use mathlib.Core.Bool.{true, cond}
+use Prim.Native.Nat.{ℕ, _+_, _*_, _/_, _%_, _^_, _≤_, _<_}
+use lib.Dec.{eqb}
 use native.Mathlib.Nat.{mod-mod, mod-lt}
 use native.Mathlib.Omega.{arith}
 use Rattle.laws.proofs.Fields.{beside, beside-low}
-use Rattle.laws.proofs.Modulo.{mod-small, mod-wrap}
-use Rattle.load_file.specs.declared.Cell.{Cell}
-use Rattle.load_file.specs.Offset.{ahead}
-use Rattle.load_file.specs.Types.{Field, A, B}
-use Rattle.load_file.specs.Cells.{packed, unpacked, soundWord, number, withNumber}
-use Rattle.load_file.proofs.Words.{word-range, with-range, unpack-pack, pack-unpack}
-use Rattle.load_file.proofs.Soundness.{sound-fields, fields-sound}
+use Rattle.cell.specs.declared.Cell.{Cell}
+use Rattle.offset.specs.Offset.{ahead}
+use Rattle.types.specs.Types.{Field, A, B}
+use Rattle.cell.specs.Cells.{packed, unpacked, soundWord, number, withNumber}
+use Rattle.offset.proofs.Offsets.{sum-is}
+use Rattle.cell.proofs.Words.{word-range, with-range, unpack-pack, pack-unpack}
+use Rattle.cell.proofs.Soundness.{sound-fields, fields-sound}
 use Rattle.execute.specs.Words.{Reduced, copyOf}
-
--- a sum below the size, and one past it
-pub sum-small : {size a b : ℕ} → a + b < size → Reduced size a b (a + b)
-sum-small h = record { is = mod-small h; below = h }
-
-pub sum-wrap : {size a b : ℕ} → a < size → b ≤ size → size ≤ a + b → Reduced size a b (a + b - size)
-sum-wrap {size} {a} {b} h l g = record { is = mod-wrap g (omega arith); below = omega arith }
 
 -- what lies ahead of a place of the core is one
 pub ahead-below : {size k : ℕ} (a b : ℕ) → k < size → ahead size a b < size
 ahead-below {size} {k} a b h = mod-lt (a + b) (omega arith)
+
+-- what a reducing addition promises, in a core of some cells
+pub reduced : {size k : ℕ} (a b : ℕ) {r : ℕ} → k < size → r ≡ cond (eqb size 0) 0 (ahead size a b) → Reduced size a b r
+reduced {size} {k} a b {r} h e = record { is = is; below = rw is (ahead-below a b h) }
+  where
+    is : r ≡ ahead size a b
+    is = sum-is size (λ z. omega arith) e
 
 -- a number stored, and then another
 pub stored-both : (f g : Field) (x y w u v : ℕ) → x < 65536 → u ≡ packed (withNumber f x (unpacked w)) → v ≡ packed (withNumber g y (unpacked u))

@@ -10,11 +10,11 @@ use native.Mathlib.Omega.{arith}
 use Rattle.laws.specs.Lists.{every}
 use Rattle.laws.proofs.Cases.{span}
 use Rattle.laws.proofs.Tests.{and-true}
-use Rattle.load_file.specs.declared.Cell.{Cell}
-use Rattle.load_file.specs.declared.offset.Relative.{Relative}
-use Rattle.load_file.specs.declared.types.Pairs.{Pairs}
-use Rattle.load_file.specs.Types.{Field, A, B, pairsOf}
-use Rattle.load_file.specs.Cells.{unpacked, soundWord, number, relative}
+use Rattle.cell.specs.declared.Cell.{Cell}
+use Rattle.offset.specs.declared.Relative.{Relative}
+use Rattle.types.specs.declared.Pairs.{Pairs}
+use Rattle.types.specs.Types.{Field, A, B, pairsOf}
+use Rattle.cell.specs.Cells.{unpacked, soundWord, number, relative}
 use Rattle.machine.specs.Execution as machine
 use Rattle.machine.specs.Execution.{Scene, mets, some?, stored, put}
 use Rattle.execute.specs.declared.modifier.Met.{Met}

@@ -10,40 +10,42 @@ use lib.ListN.{length, getD, set, length-set}
 use lib.Seq.{set-getD, set-set, getD-set-same, getD-set-other}
 use borrow.Author.Tests.{eqb-true, eqb-false}
 use Rattle.laws.proofs.Cases.{span}
-use Rattle.laws.proofs.Tests.{both}
-use Rattle.load_file.specs.Offset.{ahead}
-use Rattle.load_file.specs.Types.{Field, A}
-use Rattle.load_file.specs.Cells.{packed, unpacked, soundWord, number, withNumber}
-use Rattle.load_file.proofs.Words.{unpack-pack, word-range}
-use Rattle.machine.specs.Pointers.{Reach, here, there, through, Turn, keeps, lowers, raises, reaches, turns, fieldOf, less, more, used, pointerOf, changed, before, after, turnWrites, operand}
+use Rattle.laws.proofs.Tests.{both, and-true}
+use Rattle.offset.specs.Offset.{ahead}
+use Rattle.types.specs.Types.{Field, A}
+use Rattle.cell.specs.Cells.{packed, unpacked, soundWord, number, withNumber}
+use Rattle.cell.proofs.Words.{unpack-pack, word-range}
+use Rattle.machine.specs.declared.Rules.{Rules}
+use Rattle.machine.specs.Pointers as machine
+use Rattle.machine.specs.Pointers.{Reach, here, there, through, Shift, keeps, lowers, raises, reaches, shifts, fieldOf, less, more, used, pointerOf, changed, before, after, shifted, siteAt, operand}
 use Rattle.execute.specs.declared.address.Operand.{Operand}
 use Rattle.execute.specs.Words.{fieldBy}
-use Rattle.execute.specs.Operands.{absolute, held, evaluated, refused, operandOf, coreOf, Ready}
+use Rattle.execute.specs.Operands.{absolute, held, evaluated, soundSeen, refused, operandOf, coreOf, Ready}
 use Rattle.execute.proofs.Cells.{ahead-below, whole, with-sound}
 
 -- the modes by range
 pub goes-through : (mode : ℕ) → 2 ≤ mode → mode < 8 → getD reaches mode here ≡ through (fieldBy (mode % 2))
 goes-through mode l h = span mode 2 6 l h (λ e. rw e, (λ e. rw e, (λ e. rw e, (λ e. rw e, (λ e. rw e, (λ e. rw e, tt))))))
 
-pub turn-keeps : (mode : ℕ) → mode < 4 → getD turns mode keeps ≡ keeps
-turn-keeps mode h = span mode 0 4 zero-le h (λ e. rw e, (λ e. rw e, (λ e. rw e, (λ e. rw e, tt))))
+pub shift-keeps : (mode : ℕ) → mode < 4 → getD shifts mode keeps ≡ keeps
+shift-keeps mode h = span mode 0 4 zero-le h (λ e. rw e, (λ e. rw e, (λ e. rw e, (λ e. rw e, tt))))
 
-pub turn-lowers : (mode : ℕ) → 4 ≤ mode → mode < 6 → getD turns mode keeps ≡ lowers
-turn-lowers mode l h = span mode 4 2 l h (λ e. rw e, (λ e. rw e, tt))
+pub shift-lowers : (mode : ℕ) → 4 ≤ mode → mode < 6 → getD shifts mode keeps ≡ lowers
+shift-lowers mode l h = span mode 4 2 l h (λ e. rw e, (λ e. rw e, tt))
 
-pub turn-raises : (mode : ℕ) → 6 ≤ mode → mode < 8 → getD turns mode keeps ≡ raises
-turn-raises mode l h = span mode 6 2 l h (λ e. rw e, (λ e. rw e, tt))
+pub shift-raises : (mode : ℕ) → 6 ≤ mode → mode < 8 → getD shifts mode keeps ≡ raises
+shift-raises mode l h = span mode 6 2 l h (λ e. rw e, (λ e. rw e, tt))
 
 -- the number that the pointer is made of
-pub aimed-keeps : {size : ℕ} (mode k : ℕ) → mode < 4 → k < size → (k ≡ used (getD turns mode keeps) size k) × (k < size)
-aimed-keeps mode k h l = (rw (turn-keeps mode h), l)
+pub aimed-keeps : {size : ℕ} (mode k : ℕ) → mode < 4 → k < size → (k ≡ used (getD shifts mode keeps) size k) × (k < size)
+aimed-keeps mode k h l = (rw (shift-keeps mode h), l)
 
 pub aimed-lowers : {size r : ℕ} (mode k : ℕ) → 4 ≤ mode → mode < 6 → r ≡ less size k → r < size
-    → (r ≡ used (getD turns mode keeps) size k) × (r < size)
-aimed-lowers mode k g h e l = (rw (turn-lowers mode g h) e, l)
+    → (r ≡ used (getD shifts mode keeps) size k) × (r < size)
+aimed-lowers mode k g h e l = (rw (shift-lowers mode g h) e, l)
 
-pub aimed-raises : {size : ℕ} (mode k : ℕ) → 6 ≤ mode → mode < 8 → k < size → (k ≡ used (getD turns mode keeps) size k) × (k < size)
-aimed-raises mode k g h l = (rw (turn-raises mode g h), l)
+pub aimed-raises : {size : ℕ} (mode k : ℕ) → 6 ≤ mode → mode < 8 → k < size → (k ≡ used (getD shifts mode keeps) size k) × (k < size)
+aimed-raises mode k g h l = (rw (shift-raises mode g h), l)
 
 -- what holds of the value stored and of what was there holds of what is there now, at any two places
 pub on-set : {A : Type 0} (P : A → Type 0) (l : List A) (i j : ℕ) (v d : A) → P v → P (getD l j d) → P (getD (set l i v) j d)
@@ -69,7 +71,7 @@ stored-sound size core i j v l h = by (soundWord size (getD core i 0)) refl
     by false s = refl
 
 -- the decrement changes no verdict on the cells read
-look : (size : ℕ) (core : List ℕ) (t : Turn) (i j : ℕ) (f : Field) → size ≤ 46341 → length core ≡ size → i < size
+look : (size : ℕ) (core : List ℕ) (t : Shift) (i j : ℕ) (f : Field) → size ≤ 46341 → length core ≡ size → i < size
     → (soundWord size (getD core i 0) && soundWord size (getD (before t size core i f (number f (unpacked (getD core i 0)))) j 0))
     ≡ (soundWord size (getD core i 0) && soundWord size (getD core j 0))
 look size core keeps i j f l e h = refl
@@ -77,24 +79,31 @@ look size core lowers i j f l e h =
     stored-sound size core i j _ (rw e h) (λ s. with-sound f size (getD core i 0) _ l s (ahead-below _ _ h))
 look size core raises i j f l e h = refl
 
-module _ (size : ℕ) (core : List ℕ) (pc mode n : ℕ) where
+module _ (rules : Rules) (core : List ℕ) (pc mode n : ℕ) where
+  abbrev size : ℕ
+  size = rules .size
+
+  abbrev its : machine.Operand
+  its = operand (siteAt rules pc) core mode n
+
   -- an operand, and the core with it
   abbrev pub Gives : Operand → List ℕ → Type 0
-  Gives r after = (r ≡ operandOf size core pc mode n) × (after ≡ coreOf size core pc mode n)
+  Gives r after = (r ≡ operandOf rules core pc mode n) × (after ≡ coreOf rules core pc mode n)
 
-  pub sound-is : Ready size core pc n → (pointer : ℕ) → operand size core pc mode n .pointer ≡ pointer
-      → operand size core pc mode n .sound ≡ (soundWord size (getD core (ahead size pc n) 0) && soundWord size (getD core pointer 0))
+  pub sound-is : Ready rules core pc n → (pointer : ℕ) → its .read ≡ pointer
+      → soundSeen size its ≡ (soundWord size (getD core (ahead size pc n) 0) && soundWord size (getD core pointer 0))
   unfolding operand
   sound-is k p e =
-      look size core (getD turns mode keeps) (ahead size pc n) _ (fieldOf (getD reaches mode here)) (k .valid) (k .cells) (ahead-below pc n (k .place))
+      ap (λ (t : Bool). soundWord size (getD core (ahead size pc n) 0) && t) (and-true _)
+      ∙ look size core (getD shifts mode keeps) (ahead size pc n) _ (fieldOf (getD reaches mode here)) (k .valid) (k .cells) (ahead-below pc n (k .place))
       ∙ ap (λ (j : ℕ). soundWord size (getD core (ahead size pc n) 0) && soundWord size (getD core j 0)) e
 
-  refuses : operand size core pc mode n .sound ≡ false → Gives refused core
+  refuses : soundSeen size its ≡ false → Gives refused core
   unfolding operandOf coreOf
   refuses h = (simp h, simp h)
 
-  gives : {r : Operand} {l : List ℕ} → operand size core pc mode n .sound ≡ true → r ≡ evaluated core (ahead size pc n) (operand size core pc mode n)
-      → l ≡ operand size core pc mode n .core → Gives r l
+  gives : {r : Operand} {l : List ℕ} → soundSeen size its ≡ true → r ≡ evaluated core (ahead size pc n) (its)
+      → l ≡ its .core → Gives r l
   unfolding operandOf coreOf
   gives h e f = (rw h e, rw h f)
 
@@ -105,44 +114,44 @@ module _ (size : ℕ) (core : List ℕ) (pc mode n : ℕ) where
   found = number field (unpacked (getD core (ahead size pc n) 0))
 
   -- the register and the core by what the mode does to the number found
-  register-keeps : getD turns mode keeps ≡ keeps → operand size core pc mode n .register ≡ unpacked (getD core (operand size core pc mode n .pointer) 0)
+  register-keeps : getD shifts mode keeps ≡ keeps → its .register ≡ unpacked (getD core (its .read) 0)
   unfolding operand
   register-keeps t = rw t
 
-  register-lowers : getD turns mode keeps ≡ lowers
-      → operand size core pc mode n .register ≡ unpacked (getD (changed core (ahead size pc n) field (less size found)) (operand size core pc mode n .pointer) 0)
+  register-lowers : getD shifts mode keeps ≡ lowers
+      → its .register ≡ unpacked (getD (changed core (ahead size pc n) field (less size found)) (its .read) 0)
   unfolding operand
   register-lowers t = rw t
 
-  register-raises : getD turns mode keeps ≡ raises → operand size core pc mode n .register ≡ unpacked (getD core (operand size core pc mode n .pointer) 0)
+  register-raises : getD shifts mode keeps ≡ raises → its .register ≡ unpacked (getD core (its .read) 0)
   unfolding operand
   register-raises t = rw t
 
-  core-keeps : getD turns mode keeps ≡ keeps → core ≡ operand size core pc mode n .core
+  core-keeps : getD shifts mode keeps ≡ keeps → core ≡ its .core
   unfolding operand
   core-keeps t = rw t
 
-  core-lowers : getD turns mode keeps ≡ lowers → changed core (ahead size pc n) field (less size found) ≡ operand size core pc mode n .core
+  core-lowers : getD shifts mode keeps ≡ lowers → changed core (ahead size pc n) field (less size found) ≡ its .core
   unfolding operand
   core-lowers t = rw t
 
-  core-raises : getD turns mode keeps ≡ raises → changed core (ahead size pc n) field (more size found) ≡ operand size core pc mode n .core
+  core-raises : getD shifts mode keeps ≡ raises → changed core (ahead size pc n) field (more size found) ≡ its .core
   unfolding operand
   core-raises t = rw t
 
-  writes-are : {t : Turn} → getD turns mode keeps ≡ t → turnWrites t ≡ operand size core pc mode n .writes
+  writes-are : {t : Shift} → getD shifts mode keeps ≡ t → length (shifted t (ahead size pc n)) ≡ length (its .written)
   unfolding operand
   writes-are e = rw e
 
-  at-pc : mode ≡ 0 → operand size core pc mode n .pointer ≡ pc
+  at-pc : mode ≡ 0 → its .read ≡ pc
   unfolding operand
   at-pc e = rw e
 
-  at-location : mode ≡ 1 → operand size core pc mode n .pointer ≡ ahead size pc n
+  at-location : mode ≡ 1 → its .read ≡ ahead size pc n
   unfolding operand
   at-location e = rw e
 
-  module _ (k : Ready size core pc n) (location : ℕ) (is : location ≡ ahead size pc n) where
+  module _ (k : Ready rules core pc n) (location : ℕ) (is : location ≡ ahead size pc n) where
     pub bad-location : soundWord size (getD core location 0) ≡ false → Gives refused core
     bad-location h =
         let g : soundWord size (getD core (ahead size pc n) 0) ≡ false = rw is at h in
@@ -150,49 +159,49 @@ module _ (size : ℕ) (core : List ℕ) (pc mode n : ℕ) where
 
     module _ (h : soundWord size (getD core location 0) ≡ true) (pointer : ℕ) where
       -- the pointer's cell decides, once the location's is sound
-      verdict : operand size core pc mode n .pointer ≡ pointer → operand size core pc mode n .sound ≡ soundWord size (getD core pointer 0)
+      verdict : its .read ≡ pointer → soundSeen size its ≡ soundWord size (getD core pointer 0)
       verdict e =
           let g : soundWord size (getD core (ahead size pc n) 0) ≡ true = rw is at h in
           sound-is k pointer e ∙ simp g
 
-      assembled : {register writes : ℕ} {l : List ℕ} → operand size core pc mode n .pointer ≡ pointer → soundWord size (getD core pointer 0) ≡ true
-          → register ≡ packed (operand size core pc mode n .register) → writes ≡ operand size core pc mode n .writes
-          → l ≡ operand size core pc mode n .core
+      assembled : {register writes : ℕ} {l : List ℕ} → its .read ≡ pointer → soundWord size (getD core pointer 0) ≡ true
+          → register ≡ packed (its .register) → writes ≡ length (its .written)
+          → l ≡ its .core
           → Gives (held (absolute location) (getD core location 0) (absolute pointer) register writes) l
       assembled e s er ew el =
           gives (verdict e ∙ s)
           (λ i. record { sound = true; location = absolute (is i); old = getD core (is i) 0; pointer = absolute (sym e i); register = er i; writes = ew i }) el
 
       -- a register that is the cell at the pointer
-      plainly : operand size core pc mode n .pointer ≡ pointer → soundWord size (getD core pointer 0) ≡ true
-          → operand size core pc mode n .register ≡ unpacked (getD core (operand size core pc mode n .pointer) 0)
-          → getD core pointer 0 ≡ packed (operand size core pc mode n .register)
+      plainly : its .read ≡ pointer → soundWord size (getD core pointer 0) ≡ true
+          → its .register ≡ unpacked (getD core (its .read) 0)
+          → getD core pointer 0 ≡ packed (its .register)
       plainly e s er = sym (ap packed (er ∙ ap (λ (j : ℕ). unpacked (getD core j 0)) e) ∙ whole size (getD core pointer 0) s)
 
     pub hash : soundWord size (getD core location 0) ≡ true → soundWord size (getD core pc 0) ≡ true → mode ≡ 0
         → Gives (held (absolute location) (getD core location 0) (absolute pc) (getD core pc 0) 0) core
-    hash h s e = assembled h pc (at-pc e) s (plainly h pc (at-pc e) s (register-keeps turn)) (writes-are turn) (core-keeps turn)
+    hash h s e = assembled h pc (at-pc e) s (plainly h pc (at-pc e) s (register-keeps shift)) (writes-are shift) (core-keeps shift)
       where
-        turn : getD turns mode keeps ≡ keeps
-        turn = rw e
+        shift : getD shifts mode keeps ≡ keeps
+        shift = rw e
 
     pub dollar : soundWord size (getD core location 0) ≡ true → mode ≡ 1
         → Gives (held (absolute location) (getD core location 0) (absolute location) (getD core location 0) 0) core
-    dollar h e = assembled h location there-is h (plainly h location there-is h (register-keeps turn)) (writes-are turn) (core-keeps turn)
+    dollar h e = assembled h location there-is h (plainly h location there-is h (register-keeps shift)) (writes-are shift) (core-keeps shift)
       where
-        turn : getD turns mode keeps ≡ keeps
-        turn = rw e
+        shift : getD shifts mode keeps ≡ keeps
+        shift = rw e
 
-        there-is : operand size core pc mode n .pointer ≡ location
+        there-is : its .read ≡ location
         there-is = at-location e ∙ sym is
 
     module _ (two : 2 ≤ mode) (eight : mode < 8) (h : soundWord size (getD core location 0) ≡ true) (seen to pointer : ℕ)
-        (es : seen ≡ number (fieldBy (mode % 2)) (unpacked (getD core location 0))) (et : to ≡ used (getD turns mode keeps) size seen)
+        (es : seen ≡ number (fieldBy (mode % 2)) (unpacked (getD core location 0))) (et : to ≡ used (getD shifts mode keeps) size seen)
         (ep : pointer ≡ ahead size location to) where
       seen-is : seen ≡ found
       seen-is = es ∙ rw (is, goes-through mode two eight)
 
-      pub points : operand size core pc mode n .pointer ≡ pointer
+      pub points : its .read ≡ pointer
       unfolding operand
       points = rw (ep, et, seen-is, is, goes-through mode two eight)
 
@@ -202,7 +211,7 @@ module _ (size : ℕ) (core : List ℕ) (pc mode n : ℕ) where
       pub plain : soundWord size (getD core pointer 0) ≡ true → mode < 4
           → Gives (held (absolute location) (getD core location 0) (absolute pointer) (getD core pointer 0) 0) core
       plain s l =
-          let t = turn-keeps mode l in
+          let t = shift-keeps mode l in
           assembled h pointer points s (plainly h pointer points s (register-keeps t)) (writes-are t) (core-keeps t)
 
       module _ (s : soundWord size (getD core pointer 0) ≡ true) (l : List ℕ) (word : ℕ) (el : l ≡ set core location word) where
@@ -215,8 +224,8 @@ module _ (size : ℕ) (core : List ℕ) (pc mode n : ℕ) where
             ∙ whole size (getD l pointer 0) sound-there))
             (writes-are t) (lowered ∙ core-lowers t)
           where
-            t : getD turns mode keeps ≡ lowers
-            t = turn-lowers mode p q
+            t : getD shifts mode keeps ≡ lowers
+            t = shift-lowers mode p q
 
             to-is : to ≡ less size found
             to-is = et ∙ rw (t, seen-is)
@@ -237,26 +246,26 @@ module _ (size : ℕ) (core : List ℕ) (pc mode n : ℕ) where
             assembled h pointer points s (er ∙ plainly h pointer points s (register-raises t)) (writes-are t)
             (raised ∙ core-raises t)
           where
-            t : getD turns mode keeps ≡ raises
-            t = turn-raises mode p eight
+            t : getD shifts mode keeps ≡ raises
+            t = shift-raises mode p eight
 
             raised : l ≡ changed core (ahead size pc n) field (more size found)
             raised = rw (el, ew, eu, seen-is, is, goes-through mode two eight)
 
   -- what callers use of an operand
-  sound-same : operandOf size core pc mode n .sound ≡ operand size core pc mode n .sound
+  sound-same : operandOf rules core pc mode n .sound ≡ soundSeen size its
   unfolding operandOf
-  sound-same = by (operand size core pc mode n .sound)
+  sound-same = by (soundSeen size its)
     where
-      by : (t : Bool) → cond t (evaluated core (ahead size pc n) (operand size core pc mode n)) refused .sound ≡ t
+      by : (t : Bool) → cond t (evaluated core (ahead size pc n) (its)) refused .sound ≡ t
       by true = refl
       by false = refl
 
   module _ (r : Operand) (l : List ℕ) (g : Gives r l) where
-    pub machine-sound : {t : Bool} → r .sound ≡ t → operand size core pc mode n .sound ≡ t
+    pub machine-sound : {t : Bool} → r .sound ≡ t → soundSeen size its ≡ t
     machine-sound e = sym sound-same ∙ ap (λ (o : Operand). o .sound) (sym (g .0)) ∙ e
 
-    pub opened : r .sound ≡ true → (r ≡ evaluated core (ahead size pc n) (operand size core pc mode n)) × (l ≡ operand size core pc mode n .core)
+    pub opened : r .sound ≡ true → (r ≡ evaluated core (ahead size pc n) (its)) × (l ≡ its .core)
     unfolding operandOf coreOf
     opened e = let t = machine-sound e in (g .0 ∙ rw t, g .1 ∙ rw t)
 
@@ -265,37 +274,37 @@ module _ (size : ℕ) (core : List ℕ) (pc mode n : ℕ) where
     unchanged e = let t = machine-sound e in g .1 ∙ rw t
 
   -- what holds of the core, and of it with another number at the location, holds of the core after the operand
-  pub kept : (P : List ℕ → Type 0) → pc < size → P core → ((k : ℕ) → k < size → P (changed core (ahead size pc n) field k)) → P (operand size core pc mode n .core)
+  pub kept : (P : List ℕ → Type 0) → pc < size → P core → ((k : ℕ) → k < size → P (changed core (ahead size pc n) field k)) → P (its .core)
   unfolding operand
-  kept P h p q = by (getD turns mode keeps)
+  kept P h p q = by (getD shifts mode keeps)
     where
-      by : (t : Turn) → P (after t size (before t size core (ahead size pc n) field found) (ahead size pc n) field found)
+      by : (t : Shift) → P (after t size (before t size core (ahead size pc n) field found) (ahead size pc n) field found)
       by keeps = p
       by lowers = q (less size found) (ahead-below _ _ h)
       by raises = q (more size found) (ahead-below _ _ h)
 
-  pub length-after : pc < size → length (operand size core pc mode n .core) ≡ length core
+  pub length-after : pc < size → length (its .core) ≡ length core
   length-after h = kept (λ (l : List ℕ). length l ≡ length core) h refl (λ k u. length-set core _ _)
 
   -- the one cell that the operand changed, put back
-  pub put-back : pc < size → set (operand size core pc mode n .core) (ahead size pc n) (getD core (ahead size pc n) 0) ≡ core
+  pub put-back : pc < size → set (its .core) (ahead size pc n) (getD core (ahead size pc n) 0) ≡ core
   put-back h =
       kept (λ (l : List ℕ). set l (ahead size pc n) (getD core (ahead size pc n) 0) ≡ core) h (set-getD core (ahead size pc n) 0)
       (λ k u. set-set core (ahead size pc n) _ _ ∙ set-getD core (ahead size pc n) 0)
 
-  read-sound : operand size core pc mode n .sound ≡ true → soundWord size (getD core (ahead size pc n) 0) ≡ true
+  read-sound : soundSeen size its ≡ true → soundWord size (getD core (ahead size pc n) 0) ≡ true
   unfolding operand
   read-sound e = both _ _ e .0
 
   -- a sound cell stays sound, wherever it is
-  pub sound-after : size ≤ 46341 → pc < size → operand size core pc mode n .sound ≡ true
-      → (i : ℕ) → soundWord size (getD core i 0) ≡ true → soundWord size (getD (operand size core pc mode n .core) i 0) ≡ true
+  pub sound-after : size ≤ 46341 → pc < size → soundSeen size its ≡ true
+      → (i : ℕ) → soundWord size (getD core i 0) ≡ true → soundWord size (getD (its .core) i 0) ≡ true
   sound-after v h e i s =
       kept (λ (l : List ℕ). soundWord size (getD l i 0) ≡ true) h s
       (λ k u. on-set (λ (w : ℕ). soundWord size w ≡ true) core (ahead size pc n) i _ 0 (with-sound field size (getD core (ahead size pc n) 0) k v (read-sound e) u) s)
 
   -- the pointer is a place, its cell sound, also after the operand
-  pub pointer-below : pc < size → operand size core pc mode n .pointer < size
+  pub pointer-below : pc < size → its .read < size
   unfolding operand
   pointer-below h = by (getD reaches mode here) _
     where
@@ -304,30 +313,30 @@ module _ (size : ℕ) (core : List ℕ) (pc mode n : ℕ) where
       by there k = ahead-below _ _ h
       by (through f) k = ahead-below _ _ h
 
-  pub pointer-sound : Ready size core pc n → operand size core pc mode n .sound ≡ true → soundWord size (getD core (operand size core pc mode n .pointer) 0) ≡ true
-  pointer-sound k e = both (soundWord size (getD core (ahead size pc n) 0)) (soundWord size (getD core (operand size core pc mode n .pointer) 0)) (sym (sound-is k _ refl) ∙ e) .1
+  pub pointer-sound : Ready rules core pc n → soundSeen size its ≡ true → soundWord size (getD core (its .read) 0) ≡ true
+  pointer-sound k e = both (soundWord size (getD core (ahead size pc n) 0)) (soundWord size (getD core (its .read) 0)) (sym (sound-is k _ refl) ∙ e) .1
 
   -- the register is a sound cell
-  pub register-sound : operand size core pc mode n .sound ≡ true → soundWord size (packed (operand size core pc mode n .register)) ≡ true
+  pub register-sound : soundSeen size its ≡ true → soundWord size (packed (its .register)) ≡ true
   unfolding operand
   register-sound e =
-      let s = both (soundWord size (getD core (ahead size pc n) 0)) _ e .1 in
+      let s = sym (and-true _) ∙ both (soundWord size (getD core (ahead size pc n) 0)) _ e .1 in
       ap (soundWord size) (whole size _ s) ∙ s
 
-  pub register-whole : unpacked (packed (operand size core pc mode n .register)) ≡ operand size core pc mode n .register
+  pub register-whole : unpacked (packed (its .register)) ≡ its .register
   unfolding operand
   register-whole = unpack-pack _ (word-range _)
 
-  pub writes-few : operand size core pc mode n .writes ≤ 1
+  pub writes-few : length (its .written) ≤ 1
   unfolding operand
-  writes-few = by (getD turns mode keeps)
+  writes-few = by (getD shifts mode keeps)
     where
-      by : (t : Turn) → turnWrites t ≤ 1
+      by : (t : Shift) → length (shifted t (ahead size pc n)) ≤ 1
       by keeps = omega arith
       by lowers = omega arith
       by raises = omega arith
 
 -- the same mode and number by other names
-pub as-named : (size : ℕ) (core : List ℕ) (pc : ℕ) {m n m' n' : ℕ} {r : Operand} {l : List ℕ} → m ≡ m' → n ≡ n'
-    → Gives size core pc m n r l → Gives size core pc m' n' r l
-as-named size core pc e f g = rw (← e, ← f) g
+pub as-named : (rules : Rules) (core : List ℕ) (pc : ℕ) {m n m' n' : ℕ} {r : Operand} {l : List ℕ} → m ≡ m' → n ≡ n'
+    → Gives rules core pc m n r l → Gives rules core pc m' n' r l
+as-named rules core pc e f g = rw (← e, ← f) g

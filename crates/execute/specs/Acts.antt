@@ -4,12 +4,13 @@ use Prim.Native.Nat.{ℕ, _+_, _≤_, _<_}
 use mathlib.Core.Path.{_≡_}
 use mathlib.Core.Bool.{true}
 use mathlib.Core.List.{List, [], _∷_}
-use mathlib.Core.Option.{Option}
+use mathlib.Core.Option.{Option, none, some}
 use lib.ListN.{length, getD}
-use Rattle.load_file.specs.Types.{pairsOf}
-use Rattle.load_file.specs.Cells.{unpacked, soundWord, number, relative}
+use Rattle.cell.specs.declared.Cell.{Cell}
+use Rattle.types.specs.Types.{pairsOf}
+use Rattle.cell.specs.Cells.{unpacked, soundWord, number, relative}
 use Rattle.machine.specs.Execution as machine
-use Rattle.machine.specs.Instruction.{storeTo, storeWrites}
+use Rattle.machine.specs.Instruction.{storeTo}
 use Rattle.execute.specs.declared.Executed.{Executed}
 use Rattle.execute.specs.declared.modifier.Met.{Met}
 use Rattle.execute.specs.Instruction.{answered}
@@ -50,7 +51,12 @@ valueBy opcode =
 
 abbrev pub sceneOf : ℕ → ℕ → ℕ → ℕ → ℕ → ℕ → ℕ → machine.Scene
 sceneOf size modifier pc jump ra rb live =
-    record { size = size; modifier = modifier; pc = pc; jump = jump; ra = unpacked ra; rb = unpacked rb; live = unpacked live }
+    record { size = size; modifier = modifier; pc = pc; jump = jump; ra = unpacked ra; rb = unpacked rb; live = unpacked live; target = unpacked live }
+
+-- one write if any target field is stored
+abbrev pub storeWrites : Option Cell → ℕ
+storeWrites none = 0
+storeWrites (some c) = 1
 
 -- the answer of a scene's effect, `w` writes made before
 abbrev pub Answers : ℕ → machine.Scene → ℕ → Executed → Type 0
@@ -63,8 +69,8 @@ abbrev pub Does : ℕ → machine.Scene → List ℕ → ℕ → ℕ → Execute
 Does opcode s core target w r after =
     Answers opcode s w r × (after ≡ storeTo (machine.effectOf opcode s .cell) core target)
 
--- what the code asks
-pub record Set (size : ℕ) (core : List ℕ) (modifier pc target ra rb w : ℕ) : Type 0 where
+-- what the code asks of a scene: a core of its size, places of it, sound registers and target, at most two writes
+pub record SoundScene (size : ℕ) (core : List ℕ) (modifier pc target ra rb w : ℕ) : Type 0 where
   pub valid : size ≤ 46341
   pub cells : length core ≡ size
   pub row : modifier ≤ 6

@@ -1,12 +1,12 @@
--- The number fields by the code's numbers, and the reducing addition below twice the size.
+-- The number fields by the code's numbers, and what a reducing addition gives in a core of some cells.
 -- Assumes nothing.
 use Prim.Native.Nat.{ℕ, _<_}
 use mathlib.Core.Path.{_≡_}
 use mathlib.Core.Bool.{cond}
 use lib.Dec.{eqb}
-use Rattle.load_file.specs.declared.Cell.{Cell}
-use Rattle.load_file.specs.Offset.{ahead}
-use Rattle.load_file.specs.Types.{Field, A, B}
+use Rattle.cell.specs.declared.Cell.{Cell}
+use Rattle.offset.specs.Offset.{ahead}
+use Rattle.types.specs.Types.{Field, A, B}
 
 -- 0 is the A field, any other number the B field
 abbrev pub fieldBy : ℕ → Field

@@ -3,21 +3,27 @@ ghost use mathlib.Core.Path.{_≡_};
 ghost use mathlib.Core.Bool.{true};
 ghost use Prim.Native.Nat.{_<_, _≤_};
 ghost use lib.ListN.{length, getD, set};
-ghost use Rattle.load_file.specs.Cells.{unpacked, soundWord};
+ghost use Rattle.cell.specs.Cells.{unpacked, soundWord};
 ghost use Rattle.machine.specs.Pointers as spec;
 ghost use Rattle.machine.specs.Instruction.{fetched};
-ghost use Rattle.execute.specs.Words.{Reduced};
 ghost use Rattle.execute.specs.Operands.{Ready, Fetched, operandOf, coreOf, operandsOf, coreBoth, refused, held, neither};
 use crate::word::a_mode;
 use crate::word::b_mode;
 use crate::word::number;
 use crate::word::with_number;
-use load_file::offset::Absolute;
-use load_file::offset::Relative;
-use load_file::sound;
+use cell::sound;
+use machine::Rules;
+use offset::Absolute;
+use offset::Relative;
+use offset::add;
+use offset::plus;
+use types::mode::IMMEDIATE;
+use types::mode::INDIRECT_A;
+use types::mode::POST_INC_INDIRECT_A;
+use types::mode::PRE_DEC_INDIRECT_A;
 
 // An operand: its location and the word that was there, its pointer and a copy of the cell there, and its writes.
-pub struct Operand {
+pub(crate) struct Operand {
     pub sound: bool,
     pub location: Absolute,
     pub old: u64,
@@ -27,33 +33,13 @@ pub struct Operand {
 }
 
 // Both operands: the A pointer and register, the B pointer, which is the target, and register, and their writes.
-pub struct Operands {
+pub(crate) struct Operands {
     pub sound: bool,
     pub jump: Absolute,
     pub ra: u64,
     pub target: Absolute,
     pub rb: u64,
     pub writes: u32,
-}
-
-// The reducing addition of numbers at most the size, by compare and subtract.
-pub fn sum(a: u32, b: u32, size: u32) -> u32
-    requires { ⌜ (a < size) × (b ≤ size) × (size ≤ 46341) ⌝ }
-    ensures { λ r. ⌜ Reduced size a b r ⌝ }
-{
-    let whole = a + b;
-    if whole < size {
-        return whole;
-    }
-    whole - size
-}
-
-// The place that lies a number past a place.
-pub fn add(a: Absolute, n: Relative, size: u32) -> Absolute
-    requires { ⌜ (a .0 < size) × (n .0 ≤ size) × (size ≤ 46341) ⌝ }
-    ensures { λ r. ⌜ Reduced size (a .0) (n .0) (r .0) ⌝ }
-{
-    Absolute(sum(a.0, n.0, size))
 }
 
 // No operand: it would read an unsound cell.
@@ -85,17 +71,18 @@ fn hold(location: Absolute, old: u64, pointer: Absolute, register: u64, writes: 
 }
 
 // The modes `#` and `$`, which need no second look at the pointer's cell.
-fn direct(core: &[u64], size: u32, pc: Absolute, here: u64, mode: u64, n: Relative) -> Operand
-    requires { ⌜ Ready size (now core) (pc .0) (n .0) × (mode < 2) × (here ≡ getD (now core) (pc .0) 0) × (soundWord size here ≡ true) ⌝ }
-    ensures { λ r. ⌜ (r ≡ operandOf size (now (core .entry)) (pc .0) mode (n .0)) × (now (core .entry) ≡ coreOf size (now (core .entry)) (pc .0) mode (n .0)) ⌝ }
+fn direct(core: &[u64], rules: Rules, pc: Absolute, here: u64, mode: u64, n: Relative) -> Operand
+    requires { ⌜ Ready rules (now core) (pc .0) (n .0) × (mode < 2) × (here ≡ getD (now core) (pc .0) 0) × (soundWord (rules .size) here ≡ true) ⌝ }
+    ensures { λ r. ⌜ (r ≡ operandOf rules (now (core .entry)) (pc .0) mode (n .0)) × (now (core .entry) ≡ coreOf rules (now (core .entry)) (pc .0) mode (n .0)) ⌝ }
 {
+    let size = rules.size;
     let location = add(pc, n, size);
     let at = location.0 as usize;
     let old = core[at];
     if !sound(old, size) {
         return refuse();
     }
-    if mode == 0 {
+    if mode == IMMEDIATE {
         return hold(location, old, pc, here, 0);
     }
     hold(location, old, location, old, 0)
@@ -104,13 +91,13 @@ fn direct(core: &[u64], size: u32, pc: Absolute, here: u64, mode: u64, n: Relati
 // The number that the pointer is made of: the one found, minus 1 for `{` and `<`.
 fn aim(size: u32, mode: u64, found: Relative) -> Relative
     requires { ⌜ (found .0 < size) × (size ≤ 46341) × (mode < 8) ⌝ }
-    ensures { λ r. ⌜ (r .0 ≡ spec.used (getD spec.turns mode spec.keeps) size (found .0)) × (r .0 < size) ⌝ }
+    ensures { λ r. ⌜ (r .0 ≡ spec.used (getD spec.shifts mode spec.keeps) size (found .0)) × (r .0 < size) ⌝ }
 {
-    if mode < 4 {
+    if mode < PRE_DEC_INDIRECT_A {
         return found;
     }
-    if mode < 6 {
-        return Relative(sum(found.0, size - 1, size));
+    if mode < POST_INC_INDIRECT_A {
+        return plus(found, Relative(size - 1), size);
     }
     found
 }
@@ -136,10 +123,11 @@ fn raise(core: &mut [u64], at: usize, there: usize, raised: u64) -> u64
 }
 
 // The six modes that go through the A number (even) or the B number (odd) of the cell at the location.
-fn indirect(core: &mut [u64], size: u32, pc: Absolute, mode: u64, n: Relative) -> Operand
-    requires { ⌜ Ready size (now core) (pc .0) (n .0) × (2 ≤ mode) × (mode < 8) ⌝ }
-    ensures { λ r. ⌜ (r ≡ operandOf size (now (core .entry)) (pc .0) mode (n .0)) × (now (core .exit) ≡ coreOf size (now (core .entry)) (pc .0) mode (n .0)) ⌝ }
+fn indirect(core: &mut [u64], rules: Rules, pc: Absolute, mode: u64, n: Relative) -> Operand
+    requires { ⌜ Ready rules (now core) (pc .0) (n .0) × (2 ≤ mode) × (mode < 8) ⌝ }
+    ensures { λ r. ⌜ (r ≡ operandOf rules (now (core .entry)) (pc .0) mode (n .0)) × (now (core .exit) ≡ coreOf rules (now (core .entry)) (pc .0) mode (n .0)) ⌝ }
 {
+    let size = rules.size;
     let location = add(pc, n, size);
     let at = location.0 as usize;
     let old = core[at];
@@ -155,46 +143,46 @@ fn indirect(core: &mut [u64], size: u32, pc: Absolute, mode: u64, n: Relative) -
     if !sound(cell, size) {
         return refuse();
     }
-    if mode < 4 {
+    if mode < PRE_DEC_INDIRECT_A {
         return hold(location, old, pointer, cell, 0);
     }
-    if mode < 6 {
+    if mode < POST_INC_INDIRECT_A {
         let register = lower(core, at, there, with_number(old, field, to));
         return hold(location, old, pointer, register, 1);
     }
-    let more = sum(found.0, 1, size);
-    let register = raise(core, at, there, with_number(old, field, Relative(more)));
+    let more = plus(found, Relative(1), size);
+    let register = raise(core, at, there, with_number(old, field, more));
     hold(location, old, pointer, register, 1)
 }
 
 // The A operand of the cell at PC.
-fn a_operand(core: &mut [u64], size: u32, pc: Absolute, here: u64) -> Operand
-    requires { ⌜ Fetched size (now core) (pc .0) here ⌝ }
-    ensures { λ r. ⌜ (r ≡ operandOf size (now (core .entry)) (pc .0) (fetched (now (core .entry)) (pc .0) .«a_mode») (fetched (now (core .entry)) (pc .0) .a .0))
-        × (now (core .exit) ≡ coreOf size (now (core .entry)) (pc .0) (fetched (now (core .entry)) (pc .0) .«a_mode») (fetched (now (core .entry)) (pc .0) .a .0)) ⌝ }
+fn a_operand(core: &mut [u64], rules: Rules, pc: Absolute, here: u64) -> Operand
+    requires { ⌜ Fetched rules (now core) (pc .0) here ⌝ }
+    ensures { λ r. ⌜ (r ≡ operandOf rules (now (core .entry)) (pc .0) (fetched (now (core .entry)) (pc .0) .«a_mode») (fetched (now (core .entry)) (pc .0) .a .0))
+        × (now (core .exit) ≡ coreOf rules (now (core .entry)) (pc .0) (fetched (now (core .entry)) (pc .0) .«a_mode») (fetched (now (core .entry)) (pc .0) .a .0)) ⌝ }
 {
     let mode = a_mode(here);
     let n = number(here, 0);
-    if mode < 2 {
-        return direct(core, size, pc, here, mode, n);
+    if mode < INDIRECT_A {
+        return direct(core, rules, pc, here, mode, n);
     }
-    indirect(core, size, pc, mode, n)
+    indirect(core, rules, pc, mode, n)
 }
 
 // The B operand of that cell, its number read again from the core.
-fn b_operand(core: &mut [u64], size: u32, pc: Absolute, here: u64) -> Operand
-    requires { ⌜ Fetched size (now core) (pc .0) (getD (now core) (pc .0) 0) ⌝ }
-    ensures { λ r. ⌜ (r ≡ operandOf size (now (core .entry)) (pc .0) (unpacked here .«b_mode») (fetched (now (core .entry)) (pc .0) .b .0))
-        × (now (core .exit) ≡ coreOf size (now (core .entry)) (pc .0) (unpacked here .«b_mode») (fetched (now (core .entry)) (pc .0) .b .0)) ⌝ }
+fn b_operand(core: &mut [u64], rules: Rules, pc: Absolute, here: u64) -> Operand
+    requires { ⌜ Fetched rules (now core) (pc .0) (getD (now core) (pc .0) 0) ⌝ }
+    ensures { λ r. ⌜ (r ≡ operandOf rules (now (core .entry)) (pc .0) (unpacked here .«b_mode») (fetched (now (core .entry)) (pc .0) .b .0))
+        × (now (core .exit) ≡ coreOf rules (now (core .entry)) (pc .0) (unpacked here .«b_mode») (fetched (now (core .entry)) (pc .0) .b .0)) ⌝ }
 {
     let mode = b_mode(here);
     let at = pc.0 as usize;
     let again = core[at];
     let n = number(again, 1);
-    if mode < 2 {
-        return direct(core, size, pc, again, mode, n);
+    if mode < INDIRECT_A {
+        return direct(core, rules, pc, again, mode, n);
     }
-    indirect(core, size, pc, mode, n)
+    indirect(core, rules, pc, mode, n)
 }
 
 // Neither operand: one would read an unsound cell.
@@ -221,15 +209,15 @@ fn put_back(core: &mut [u64], location: Absolute, old: u64)
 }
 
 // Both operands, A first; where a cell that B reads is unsound, the one cell that A changed is put back.
-pub fn evaluate(core: &mut [u64], size: u32, pc: Absolute, here: u64) -> Operands
-    requires { ⌜ Fetched size (now core) (pc .0) here ⌝ }
-    ensures { λ r. ⌜ (r ≡ operandsOf size (now (core .entry)) (pc .0)) × (now (core .exit) ≡ coreBoth size (now (core .entry)) (pc .0)) ⌝ }
+pub(crate) fn evaluate(core: &mut [u64], rules: Rules, pc: Absolute, here: u64) -> Operands
+    requires { ⌜ Fetched rules (now core) (pc .0) here ⌝ }
+    ensures { λ r. ⌜ (r ≡ operandsOf rules (now (core .entry)) (pc .0)) × (now (core .exit) ≡ coreBoth rules (now (core .entry)) (pc .0)) ⌝ }
 {
-    let a = a_operand(core, size, pc, here);
+    let a = a_operand(core, rules, pc, here);
     if !a.sound {
         return refuse_both();
     }
-    let b = b_operand(core, size, pc, here);
+    let b = b_operand(core, rules, pc, here);
     if !b.sound {
         let location = a.location;
         put_back(core, location, a.old);

@@ -2,19 +2,23 @@
 ghost use mathlib.Core.Path.{_≡_};
 ghost use Rattle.execute.specs.Instruction.{executedAt, coreAfter};
 use address::evaluate;
-use load_file::offset::Absolute;
-use load_file::sound;
+use cell::sound;
+use machine::Rules;
+use machine::limits::LARGEST_CORE;
+use offset::Absolute;
+use offset::within;
 use opcode::act;
+use types::opcode::NOP;
 
 mod address;
 mod modifier;
 mod opcode;
 mod word;
 
-// What an instruction answers: the next place, or the place of SPL's child, and the writes; how it ends, and the writes; or why it is refused.
+// What an instruction answers: the next place, beside it the place of SPL's child, and the writes; how it ends, and the writes; or why it is refused.
 pub enum Executed {
-    Goes(u32, u32),
-    Splits(u32, u32),
+    Goes(Absolute, u32),
+    Splits(Absolute, Absolute, u32),
     Dat(u32),
     DivideByZero(u32),
     PrivateMemory,
@@ -22,16 +26,17 @@ pub enum Executed {
 }
 
 // Executes the cell at PC. A refusal leaves the core unchanged.
-pub fn execute(core: &mut [u64], size: u32, pc: Absolute) -> Executed
-    ensures { λ r. ⌜ (r ≡ executedAt size (now (core .entry)) (pc .0)) × (now (core .exit) ≡ coreAfter size (now (core .entry)) (pc .0)) ⌝ }
+pub fn execute(core: &mut [u64], rules: Rules, pc: Absolute) -> Executed
+    ensures { λ r. ⌜ (r ≡ executedAt rules (now (core .entry)) (pc .0)) × (now (core .exit) ≡ coreAfter rules (now (core .entry)) (pc .0)) ⌝ }
 {
-    if size > 46341 {
+    let size = rules.size;
+    if size > LARGEST_CORE {
         return Executed::Unsound;
     }
     if core.len() != size as usize {
         return Executed::Unsound;
     }
-    if pc.0 >= size {
+    if !within(pc, size) {
         return Executed::Unsound;
     }
     let at = pc.0 as usize;
@@ -40,10 +45,10 @@ pub fn execute(core: &mut [u64], size: u32, pc: Absolute) -> Executed
         return Executed::Unsound;
     }
     let op = word::opcode(here);
-    if op > 16 {
+    if op > NOP {
         return Executed::PrivateMemory;
     }
-    let o = evaluate(core, size, pc, here);
+    let o = evaluate(core, rules, pc, here);
     if !o.sound {
         return Executed::Unsound;
     }

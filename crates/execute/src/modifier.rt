@@ -2,11 +2,11 @@
 ghost use mathlib.Core.Path.{_≡_};
 ghost use Rattle.execute.specs.Acts.{metOf};
 use crate::word::number;
-use load_file::offset::Relative;
-use load_file::types::pairs_of;
+use offset::Relative;
+use types::pairs_of;
 
 // The first and the last pair of register numbers, the same one where there is one, and their target fields.
-pub struct Met {
+pub(crate) struct Met {
     pub a1: Relative,
     pub b1: Relative,
     pub a2: Relative,
@@ -16,7 +16,7 @@ pub struct Met {
 }
 
 // The numbers of both registers that meet.
-pub fn meet(modifier: u8, ra: u64, rb: u64) -> Met
+pub(crate) fn meet(modifier: u8, ra: u64, rb: u64) -> Met
     ensures { λ r. ⌜ r ≡ metOf modifier ra rb ⌝ }
 {
     let p = pairs_of(modifier);

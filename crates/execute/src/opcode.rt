@@ -5,20 +5,39 @@ ghost use mathlib.Core.Option.{some};
 ghost use Prim.Native.Nat.{_<_, _≤_, _/_, _%_};
 ghost use lib.Dec.{eqb, ltb};
 ghost use lib.ListN.{getD};
-ghost use Rattle.load_file.specs.Cells.{packed, unpacked, withNumber};
+ghost use Rattle.cell.specs.Cells.{packed, unpacked, withNumber};
 ghost use Rattle.execute.specs.Words.{fieldBy};
-ghost use Rattle.execute.specs.Acts.{sceneOf, valueBy, Set, Answers, Does};
+ghost use Rattle.execute.specs.Acts.{sceneOf, valueBy, SoundScene, Answers, Does};
 use crate::Executed;
-use crate::address::add;
-use crate::address::sum;
 use crate::modifier::Met;
 use crate::modifier::meet;
 use crate::word::copy;
 use crate::word::modifier;
 use crate::word::opcode;
 use crate::word::with_number;
-use load_file::offset::Absolute;
-use load_file::offset::Relative;
+use offset::Absolute;
+use offset::Relative;
+use offset::add;
+use offset::plus;
+use types::modifier::I;
+use types::opcode::ADD;
+use types::opcode::CMP;
+use types::opcode::DAT;
+use types::opcode::DIV;
+use types::opcode::DJN;
+use types::opcode::JMN;
+use types::opcode::JMP;
+use types::opcode::JMZ;
+use types::opcode::LDP;
+use types::opcode::MOD;
+use types::opcode::MOV;
+use types::opcode::MUL;
+use types::opcode::NOP;
+use types::opcode::SLT;
+use types::opcode::SNE;
+use types::opcode::SPL;
+use types::opcode::STP;
+use types::opcode::SUB;
 
 // The target word with a number in each target field, first pair first.
 fn store(t: u64, t1: u8, n1: Relative, t2: u8, n2: Relative) -> u64
@@ -39,22 +58,22 @@ fn moves(
     rb: u64,
     w: u32,
 ) -> Executed
-    requires { ⌜ Set size (now core) modifier (pc .0) (target .0) ra rb w ⌝ }
+    requires { ⌜ SoundScene size (now core) modifier (pc .0) (target .0) ra rb w ⌝ }
     ensures { λ r. ⌜ Does 1 (sceneOf size modifier (pc .0) 0 ra rb (getD (now (core .entry)) (target .0) 0)) (now (core .entry)) (target .0) w r (now (core .exit)) ⌝ }
 {
     let next = add(pc, Relative(1), size);
     let at = target.0 as usize;
     let t = core[at];
-    if modifier == 6 {
+    if modifier == I {
         core[at] = copy(t, ra);
-        return Executed::Goes(next.0, w + 1);
+        return Executed::Goes(next, w + 1);
     }
     let p = meet(modifier, ra, rb);
     let a1 = p.a1;
     let a2 = p.a2;
     let moved = store(t, p.t1, a1, p.t2, a2);
     core[at] = moved;
-    Executed::Goes(next.0, w + 1)
+    Executed::Goes(next, w + 1)
 }
 
 // ADD a+b, SUB b-a and MUL a×b of two numbers.
@@ -62,11 +81,11 @@ fn value(opcode: u64, size: u32, a: Relative, b: Relative) -> Relative
     requires { ⌜ (a .0 < size) × (b .0 < size) × (size ≤ 46341) × (2 ≤ opcode) × (opcode < 5) ⌝ }
     ensures { λ r. ⌜ (some (r .0) ≡ valueBy opcode size (a .0) (b .0)) × (r .0 < size) ⌝ }
 {
-    if opcode == 2 {
-        return Relative(sum(a.0, b.0, size));
+    if opcode == ADD {
+        return plus(a, b, size);
     }
-    if opcode == 3 {
-        return Relative(sum(b.0, size - a.0, size));
+    if opcode == SUB {
+        return plus(b, Relative(size - a.0), size);
     }
     let product = a.0 * b.0 % size;
     Relative(product)
@@ -84,7 +103,7 @@ fn sums(
     rb: u64,
     w: u32,
 ) -> Executed
-    requires { ⌜ Set size (now core) modifier (pc .0) (target .0) ra rb w × (2 ≤ opcode) × (opcode < 5) ⌝ }
+    requires { ⌜ SoundScene size (now core) modifier (pc .0) (target .0) ra rb w × (2 ≤ opcode) × (opcode < 5) ⌝ }
     ensures { λ r. ⌜ Does opcode (sceneOf size modifier (pc .0) 0 ra rb (getD (now (core .entry)) (target .0) 0)) (now (core .entry)) (target .0) w r (now (core .exit)) ⌝ }
 {
     let next = add(pc, Relative(1), size);
@@ -98,7 +117,7 @@ fn sums(
     let at = target.0 as usize;
     let t = core[at];
     core[at] = store(t, p.t1, v1, p.t2, v2);
-    Executed::Goes(next.0, w + 1)
+    Executed::Goes(next, w + 1)
 }
 
 // DIV a/b and MOD a mod b in a target field, which a zero b leaves.
@@ -108,7 +127,7 @@ fn part(opcode: u64, t: u64, field: u8, a: Relative, b: Relative) -> u64
     if b.0 == 0 {
         return t;
     }
-    if opcode == 5 {
+    if opcode == DIV {
         return with_number(t, field, Relative(a.0 / b.0));
     }
     with_number(t, field, Relative(a.0 % b.0))
@@ -126,7 +145,7 @@ fn divides(
     rb: u64,
     w: u32,
 ) -> Executed
-    requires { ⌜ Set size (now core) modifier (pc .0) (target .0) ra rb w × (5 ≤ opcode) × (opcode < 7) ⌝ }
+    requires { ⌜ SoundScene size (now core) modifier (pc .0) (target .0) ra rb w × (5 ≤ opcode) × (opcode < 7) ⌝ }
     ensures { λ r. ⌜ Does opcode (sceneOf size modifier (pc .0) 0 ra rb (getD (now (core .entry)) (target .0) 0)) (now (core .entry)) (target .0) w r (now (core .exit)) ⌝ }
 {
     let p = meet(modifier, ra, rb);
@@ -145,14 +164,14 @@ fn divides(
         return Executed::DivideByZero(w + 1);
     }
     let next = add(pc, Relative(1), size);
-    Executed::Goes(next.0, w + 1)
+    Executed::Goes(next, w + 1)
 }
 
 // JMZ: whether some tested b is 0; JMN: whether some isn't.
 fn tests(opcode: u64, b1: Relative, b2: Relative) -> bool
     ensures { λ r. ⌜ r ≡ cond (eqb opcode 8) (eqb (b1 .0) 0 || eqb (b2 .0) 0) (not (eqb (b1 .0) 0) || not (eqb (b2 .0) 0)) ⌝ }
 {
-    if opcode == 8 {
+    if opcode == JMZ {
         return (b1.0 == 0) | (b2.0 == 0);
     }
     (b1.0 != 0) | (b2.0 != 0)
@@ -176,14 +195,14 @@ fn jumps(
     let b1 = p.b1;
     let b2 = p.b2;
     if tests(opcode, b1, b2) {
-        return Executed::Goes(jump.0, w);
+        return Executed::Goes(jump, w);
     }
     let next = add(pc, Relative(1), size);
-    Executed::Goes(next.0, w)
+    Executed::Goes(next, w)
 }
 
 // DJN: stores b-1 and goes when some result isn't 0.
-fn counts(
+fn decrements_and_jumps(
     core: &mut [u64],
     size: u32,
     pc: Absolute,
@@ -194,7 +213,7 @@ fn counts(
     rb: u64,
     w: u32,
 ) -> Executed
-    requires { ⌜ Set size (now core) modifier (pc .0) (target .0) ra rb w ⌝ }
+    requires { ⌜ SoundScene size (now core) modifier (pc .0) (target .0) ra rb w ⌝ }
     ensures { λ r. ⌜ Does 10 (sceneOf size modifier (pc .0) (jump .0) ra rb (getD (now (core .entry)) (target .0) 0)) (now (core .entry)) (target .0) w r (now (core .exit)) ⌝ }
 {
     let at = target.0 as usize;
@@ -202,14 +221,14 @@ fn counts(
     let met = meet(modifier, ra, rb);
     let b1 = met.b1;
     let b2 = met.b2;
-    let n1 = sum(b1.0, size - 1, size);
-    let n2 = sum(b2.0, size - 1, size);
-    core[at] = store(live, met.t1, Relative(n1), met.t2, Relative(n2));
-    if (n1 != 0) | (n2 != 0) {
-        return Executed::Goes(jump.0, w + 1);
+    let n1 = plus(b1, Relative(size - 1), size);
+    let n2 = plus(b2, Relative(size - 1), size);
+    core[at] = store(live, met.t1, n1, met.t2, n2);
+    if (n1.0 != 0) | (n2.0 != 0) {
+        return Executed::Goes(jump, w + 1);
     }
     let next = add(pc, Relative(1), size);
-    Executed::Goes(next.0, w + 1)
+    Executed::Goes(next, w + 1)
 }
 
 // SLT: whether every a is below its b; SNE: whether one differs; CMP, SEQ: whether none does. Under I the A register is also compared whole with the live target.
@@ -218,11 +237,11 @@ fn passes(opcode: u64, modifier: u8, live: u64, ra: u64, p: Met) -> bool
         (cond (eqb opcode 13) (not (eqb (p .a1 .0) (p .b1 .0) && eqb (p .a2 .0) (p .b2 .0) && (not (eqb modifier 6) || eqb ra live)))
         (eqb (p .a1 .0) (p .b1 .0) && eqb (p .a2 .0) (p .b2 .0) && (not (eqb modifier 6) || eqb ra live))) ⌝ }
 {
-    if opcode == 14 {
+    if opcode == SLT {
         return (p.a1.0 < p.b1.0) & (p.a2.0 < p.b2.0);
     }
-    let equal = (p.a1.0 == p.b1.0) & (p.a2.0 == p.b2.0) & ((modifier != 6) | (ra == live));
-    if opcode == 13 {
+    let equal = (p.a1.0 == p.b1.0) & (p.a2.0 == p.b2.0) & ((modifier != I) | (ra == live));
+    if opcode == SNE {
         return !equal;
     }
     equal
@@ -240,7 +259,7 @@ fn skips(
     rb: u64,
     w: u32,
 ) -> Executed
-    requires { ⌜ Set size (now core) modifier (pc .0) (target .0) ra rb w × (11 ≤ opcode) × (opcode < 15) ⌝ }
+    requires { ⌜ SoundScene size (now core) modifier (pc .0) (target .0) ra rb w × (11 ≤ opcode) × (opcode < 15) ⌝ }
     ensures { λ r. ⌜ Does opcode (sceneOf size modifier (pc .0) 0 ra rb (getD (now (core .entry)) (target .0) 0)) (now (core .entry)) (target .0) w r (now (core .entry)) ⌝ }
 {
     let next = add(pc, Relative(1), size);
@@ -249,13 +268,13 @@ fn skips(
     let live = core[at];
     if passes(opcode, modifier, live, ra, p) {
         let after = add(next, Relative(1), size);
-        return Executed::Goes(after.0, w);
+        return Executed::Goes(after, w);
     }
-    Executed::Goes(next.0, w)
+    Executed::Goes(next, w)
 }
 
-// The nineteen opcodes but LDP and STP, after both operands, which made w writes.
-pub fn act(
+// The nineteen opcodes, after both operands, which made w writes. LDP and STP are refused before.
+pub(crate) fn act(
     core: &mut [u64],
     size: u32,
     pc: Absolute,
@@ -266,25 +285,30 @@ pub fn act(
     rb: u64,
     w: u32,
 ) -> Executed
-    requires { ⌜ Set size (now core) (unpacked here .modifier) (pc .0) (target .0) ra rb w ⌝ }
+    requires { ⌜ SoundScene size (now core) (unpacked here .modifier) (pc .0) (target .0) ra rb w × (unpacked here .opcode ≤ 16) ⌝ }
     ensures { λ r. ⌜ Does (unpacked here .opcode) (sceneOf size (unpacked here .modifier) (pc .0) (jump .0) ra rb (getD (now (core .entry)) (target .0) 0))
         (now (core .entry)) (target .0) w r (now (core .exit)) ⌝ }
 {
     let op = opcode(here);
     let k = modifier(here);
     match op {
-        0 => Executed::Dat(w),
-        1 => moves(core, size, pc, k, ra, target, rb, w),
-        2..=4 => sums(core, size, pc, op, k, ra, target, rb, w),
-        5..=6 => divides(core, size, pc, op, k, ra, target, rb, w),
-        7 => Executed::Goes(jump.0, w),
-        8..=9 => jumps(size, pc, op, k, jump, ra, rb, w),
-        10 => counts(core, size, pc, k, jump, ra, target, rb, w),
-        11..=14 => skips(core, size, pc, op, k, ra, target, rb, w),
-        15 => Executed::Splits(jump.0, w),
-        _ => {
-            let next = add(pc, Relative(1), size);
-            Executed::Goes(next.0, w)
+        DAT => Executed::Dat(w),
+        MOV => moves(core, size, pc, k, ra, target, rb, w),
+        ADD..=MUL => sums(core, size, pc, op, k, ra, target, rb, w),
+        DIV..=MOD => divides(core, size, pc, op, k, ra, target, rb, w),
+        JMP => Executed::Goes(jump, w),
+        JMZ..=JMN => jumps(size, pc, op, k, jump, ra, rb, w),
+        DJN => decrements_and_jumps(core, size, pc, k, jump, ra, target, rb, w),
+        CMP..=SLT => skips(core, size, pc, op, k, ra, target, rb, w),
+        SPL => {
+            let on = add(pc, Relative(1), size);
+            Executed::Splits(on, jump, w)
         }
+        NOP => {
+            let next = add(pc, Relative(1), size);
+            Executed::Goes(next, w)
+        }
+        LDP..=STP => Executed::PrivateMemory,
+        _ => Executed::Unsound,
     }
 }

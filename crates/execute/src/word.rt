@@ -1,20 +1,20 @@
 // One field of a packed cell at a time (01, 'Cells'): unpacking all six would cost.
 ghost use mathlib.Core.Path.{_≡_};
-ghost use Rattle.load_file.specs.Cells as spec;
+ghost use Rattle.cell.specs.Cells as spec;
 ghost use Rattle.execute.specs.Words.{fieldBy, copyOf};
-use load_file::offset::Relative;
-use load_file::with_a;
-use load_file::with_b;
+use cell::with_a;
+use cell::with_b;
+use offset::Relative;
 
 // The opcode's number.
-pub fn opcode(w: u64) -> u64
+pub(crate) fn opcode(w: u64) -> u64
     ensures { λ r. ⌜ r ≡ spec.unpacked w .opcode ⌝ }
 {
     (w >> 41) & 31
 }
 
 // The modifier's number.
-pub fn modifier(w: u64) -> u8
+pub(crate) fn modifier(w: u64) -> u8
     ensures { λ r. ⌜ r ≡ spec.unpacked w .modifier ⌝ }
 {
     let k = ((w >> 38) & 7) as u8;
@@ -22,21 +22,21 @@ pub fn modifier(w: u64) -> u8
 }
 
 // The number of the A mode.
-pub fn a_mode(w: u64) -> u64
+pub(crate) fn a_mode(w: u64) -> u64
     ensures { λ r. ⌜ r ≡ spec.unpacked w .«a_mode» ⌝ }
 {
     (w >> 35) & 7
 }
 
 // The number of the B mode.
-pub fn b_mode(w: u64) -> u64
+pub(crate) fn b_mode(w: u64) -> u64
     ensures { λ r. ⌜ r ≡ spec.unpacked w .«b_mode» ⌝ }
 {
     (w >> 32) & 7
 }
 
 // The number in a field: 0 is the A field, 1 the B field.
-pub fn number(w: u64, field: u8) -> Relative
+pub(crate) fn number(w: u64, field: u8) -> Relative
     ensures { λ r. ⌜ r .0 ≡ spec.number (fieldBy field) (spec.unpacked w) ⌝ }
 {
     if field == 0 {
@@ -48,7 +48,7 @@ pub fn number(w: u64, field: u8) -> Relative
 }
 
 // The word with another number in a field.
-pub fn with_number(w: u64, field: u8, n: Relative) -> u64
+pub(crate) fn with_number(w: u64, field: u8, n: Relative) -> u64
     ensures { λ r. ⌜ r ≡ spec.packed (spec.withNumber (fieldBy field) (n .0) (spec.unpacked w)) ⌝ }
 {
     if field == 0 {
@@ -58,7 +58,7 @@ pub fn with_number(w: u64, field: u8, n: Relative) -> u64
 }
 
 // A cell copied over another: opcode, modifier and numbers, not modes.
-pub fn copy(to: u64, from: u64) -> u64
+pub(crate) fn copy(to: u64, from: u64) -> u64
     ensures { λ r. ⌜ r ≡ spec.packed (copyOf (spec.unpacked to) (spec.unpacked from)) ⌝ }
 {
     from & 0x3fc0_ffff_ffff | ((to >> 32) & 0x3f) << 32

@@ -12,7 +12,7 @@ use Rattle.laws.specs.Lists.{oneIf, tally, same}
 use Rattle.laws.proofs.Every.{Every, every-weaker}
 use Rattle.machine.specs.declared.Entry.{Entry}
 use Rattle.machine.specs.State.{Machine}
-use Rattle.machine.specs.Names.{names, isNew, countOf, register, registered, numbered}
+use Rattle.machine.specs.Names.{names, isNew, seventeenth, countOf, register, registered, numbered}
 use Rattle.machine.specs.Queue.{entry, unpackedEntry, entries, nameOf, entriesOf, front, pop, push, started}
 use Rattle.machine.specs.Step.{counted}
 use Rattle.machine.proofs.Entries.{packed-name}
@@ -25,12 +25,12 @@ abbrev pub Known : ℕ → List ℕ → Type 0
 Known held ws = Every (λ w. unpackedEntry w .name < held) ws
 
 pub record Agree (m : Machine) : Type 0 where
-  pub known : Known (m .header .held) (entries m)
+  pub known : Known (m .header .names .held) (entries m)
   pub counts : (n : List ℕ) → countOf (m .header) n ≡ entriesOf m n
 
 -- pop: one entry of the front entry's name less
 module _ (m : Machine) (t : List ℕ) (s : SoundHeader m) (r : Held (m .header) (unpackedEntry (front m) .name) t) (a : Agree m)
-    (some : 0 < m .header .length) (one : 1 ≤ getD (m .header .counts) (unpackedEntry (front m) .name) 0) where
+    (some : 0 < m .header .ring .length) (one : 1 ≤ getD (m .header .counts) (unpackedEntry (front m) .name) 0) where
   pub pop-entries : (n : List ℕ) → oneIf (same t n) + entriesOf (pop m) n ≡ entriesOf m n
   unfolding pop
   pop-entries n =
@@ -40,8 +40,8 @@ module _ (m : Machine) (t : List ℕ) (s : SoundHeader m) (r : Held (m .header) 
   unfolding pop
   pop-count n = count-lower (m .header) t (unpackedEntry (front m) .name) r (counts-long m s) n one
 
-  pop-known : Known (m .header .held) (entries (pop m))
-  pop-known = every-pop m some (λ w. unpackedEntry w .name < m .header .held) (a .known) .1
+  pop-known : Known (m .header .names .held) (entries (pop m))
+  pop-known = every-pop m some (λ w. unpackedEntry w .name < m .header .names .held) (a .known) .1
 
   pub pop-agree : Agree (pop m)
   unfolding pop
@@ -53,22 +53,22 @@ module _ (m : Machine) (t : List ℕ) (s : SoundHeader m) (r : Held (m .header) 
 
 -- push: one entry of its name more
 module _ (m : Machine) (e : Entry) (t : List ℕ) (s : SoundHeader m) (r : Held (m .header) (e .name) t) (a : Agree m)
-    (room : m .header .length < length (m .queue)) where
+    (room : m .header .ring .length < length (m .queue)) where
   pub push-entries : (n : List ℕ) → entriesOf (push e m) n ≡ entriesOf m n + oneIf (same t n)
   unfolding push
   push-entries n =
       tally-push e m (s .head) room (λ w. same (nameOf m w) n)
       ∙ ap (λ (x : List ℕ). entriesOf m n + oneIf (same x n))
-      (ap (λ (i : ℕ). getD (names (m .header)) i []) (packed-name e (omega (arith, r .below, s .few))) ∙ r .at)
+      (ap (λ (i : ℕ). getD (names (m .header .names)) i []) (packed-name e (omega (arith, r .below, s .few))) ∙ r .at)
 
   push-count : (n : List ℕ) → countOf (push e m .header) n ≡ countOf (m .header) n + oneIf (same t n)
   unfolding push
   push-count n = count-raise (m .header) t (e .name) r (counts-long m s) n
 
-  push-known : Known (m .header .held) (entries (push e m))
+  push-known : Known (m .header .names .held) (entries (push e m))
   push-known =
-      every-push e m (s .head) room (λ w. unpackedEntry w .name < m .header .held) (a .known)
-      (subst (λ (k : ℕ). k < m .header .held) (sym (packed-name e (omega (arith, r .below, s .few)))) (r .below))
+      every-push e m (s .head) room (λ w. unpackedEntry w .name < m .header .names .held) (a .known)
+      (subst (λ (k : ℕ). k < m .header .names .held) (sym (packed-name e (omega (arith, r .below, s .few)))) (r .below))
 
   pub push-agree : Agree (push e m)
   unfolding push
@@ -93,7 +93,7 @@ counted-held core m r = record { below = r .below; own = r .own; at = r .at }
 
 -- a process started: one entry of its name more
 module _ (place i : ℕ) (m : Machine) (t : List ℕ) (s : SoundHeader m) (r : Held (m .header) i t) (a : Agree m)
-    (room : m .header .length < length (m .queue)) where
+    (room : m .header .ring .length < length (m .queue)) where
   abbrev numberedMachine : Machine
   numberedMachine = holding (m .core) (numbered i (m .header)) m
 
@@ -112,7 +112,7 @@ module _ (place i : ℕ) (m : Machine) (t : List ℕ) (s : SoundHeader m) (r : H
   unfolding numbered entries
   numbered-entries n = refl
 
-  numbered-room : numberedMachine .header .length < length (m .queue)
+  numbered-room : numberedMachine .header .ring .length < length (m .queue)
   unfolding numbered
   numbered-room = room
 
@@ -138,17 +138,17 @@ module _ (m : Machine) (n : List ℕ) (s : SoundHeader m) (a : Agree m) where
   held-registered core = record { agree = record { known = a .known; counts = a .counts }; entries = λ x. refl }
 
   -- a new name
-  module _ (small : m .header .held < 16) (fits : length n ≤ 32) where
-    news : names (register (m .header) n) ≡ names (m .header) ++ (n ∷ [])
+  module _ (small : m .header .names .held < 16) (fits : length n ≤ 32) where
+    news : names (register (m .header) n .names) ≡ names (m .header .names) ++ (n ∷ [])
     news = names-register (m .header) n (s .shape) small fits (name-short m s)
 
-    tally-known : (x : List ℕ) (ws : List ℕ) → Known (m .header .held) ws
-        → tally (λ w. same (getD (names (m .header) ++ (n ∷ [])) (unpackedEntry w .name) []) x) ws
-        ≡ tally (λ w. same (getD (names (m .header)) (unpackedEntry w .name) []) x) ws
+    tally-known : (x : List ℕ) (ws : List ℕ) → Known (m .header .names .held) ws
+        → tally (λ w. same (getD (names (m .header .names) ++ (n ∷ [])) (unpackedEntry w .name) []) x) ws
+        ≡ tally (λ w. same (getD (names (m .header .names)) (unpackedEntry w .name) []) x) ws
     tally-known x [] k = refl
     tally-known x (w ∷ ws) k =
         ap₂ (λ (y : List ℕ) (z : ℕ). oneIf (same y x) + z)
-        (List·getD-append (names (m .header)) (n ∷ []) [] (unpackedEntry w .name) (rw (length-names (m .header)) (k .0)))
+        (List·getD-append (names (m .header .names)) (n ∷ []) [] (unpackedEntry w .name) (rw (length-names (m .header)) (k .0)))
         (tally-known x ws (k .1))
 
     new-entries : (core : List ℕ) (x : List ℕ) → entriesOf (holding core (register (m .header) n) m) x ≡ entriesOf m x
@@ -167,13 +167,13 @@ module _ (m : Machine) (n : List ℕ) (s : SoundHeader m) (a : Agree m) where
     new-registered : (core : List ℕ) → Registered m (holding core (register (m .header) n) m)
     new-registered core = record { agree = new-agree core; entries = new-entries core }
 
-  pub is-registered : (core : List ℕ) → (isNew (m .header) n && eqb (m .header .held) 16) ≡ false → length n ≤ 32
+  pub is-registered : (core : List ℕ) → seventeenth (m .header .names) n ≡ false → length n ≤ 32
       → Registered m (holding core (registered (m .header) n) m)
-  is-registered core free fits = go (isNew (m .header) n) refl free
+  is-registered core free fits = go (isNew (m .header .names) n) refl free
     where
-      go : (b : Bool) → isNew (m .header) n ≡ b → (b && eqb (m .header .held) 16) ≡ false
+      go : (b : Bool) → isNew (m .header .names) n ≡ b → (b && eqb (m .header .names .held) 16) ≡ false
           → Registered m (holding core (cond b (register (m .header) n) (m .header)) m)
       go false e free = held-registered core
       go true e free =
-          let k : m .header .held ≡ 16 → ⊥ = eqb-false _ _ free in
+          let k : m .header .names .held ≡ 16 → ⊥ = eqb-false _ _ free in
           new-registered (omega (arith, s .few)) fits core

@@ -11,9 +11,9 @@ use borrow.Author.Tests.{leb-false, ne-eqb}
 use Rattle.laws.specs.Lists.{oneIf, same}
 use Rattle.laws.proofs.Same.{same-refl}
 use Rattle.answer.specs.Numbers.{Told, gives}
-use Rattle.load_file.specs.Offset.{ahead}
-use Rattle.program.specs.Metadata.{called}
-use Rattle.program.proofs.Names.{called-valid}
+use Rattle.offset.specs.Offset.{ahead}
+use Rattle.metadata.specs.Metadata.{called}
+use Rattle.metadata.proofs.Names.{called-valid}
 use Rattle.machine.specs.declared.Entry.{Entry}
 use Rattle.machine.specs.State.{Machine, Outcome}
 use Rattle.machine.specs.Names.{slot, isNew, numbered}
@@ -34,7 +34,7 @@ record Grown (m : Machine) (t : List ℕ) (q : Queued) : Type 0 where
   entries : (n : List ℕ) → entriesOf (q .machine) n ≡ entriesOf m n + q .pushes * oneIf (same t n)
 
 grown : (x : Next) (e : Entry) (m : Machine) (t : List ℕ) → SoundHeader m → Held (m .header) (e .name) t → Agree m
-    → m .header .length < length (m .queue) → Grown m t (queued x e m)
+    → m .header .ring .length < length (m .queue) → Grown m t (queued x e m)
 grown x e m t s r a room =
     queued-by-cases (Grown m t) (λ p. Unit {0}) e m
     (record { agree = a; entries = λ n. omega arith })
@@ -85,10 +85,10 @@ stepped m r a =
 -- a load that passed its checks: one entry of its name more, and no other name held than before
 pub record Begun (m : Machine) (t : List ℕ) (m′ : Machine) : Type 0 where
   pub agree : Agree m′
-  pub names : (n : List ℕ) → isNew (m′ .header) n ≡ (isNew (m .header) n && not (same t n))
+  pub names : (n : List ℕ) → isNew (m′ .header .names) n ≡ (isNew (m .header .names) n && not (same t n))
   pub entries : (n : List ℕ) → entriesOf m′ n ≡ entriesOf m n + oneIf (same t n)
 
-started-names : (place i : ℕ) (m : Machine) (n : List ℕ) → isNew (started place i m .header) n ≡ isNew (m .header) n
+started-names : (place i : ℕ) (m : Machine) (n : List ℕ) → isNew (started place i m .header .names) n ≡ isNew (m .header .names) n
 unfolding started push numbered
 started-names place i m n = refl
 
@@ -97,8 +97,8 @@ pub begun : (m : Machine) (given body : List ℕ) (origin place : ℕ) → Sound
 unfolding loaded
 begun m given body origin place s a l =
     let t = called given in
-    let i = slot (m .header) t in
-    let p = ahead (m .header .size) place (originOf origin) in
+    let i = slot (m .header .names) t in
+    let p = ahead (m .header .rules .size) place (originOf origin) in
     let n = placing m given body place in
     let g = is-registered m t s a (n .core) (l .free) fits in
     let b = placing-sound m given body place s l in
@@ -115,7 +115,7 @@ begun m given body origin place s a l =
 
 -- the answer is 0 exactly where the popped entry's name has entries left
 module _ (e : Entry) (m : Machine) (t : List ℕ) (s : SoundHeader m) (r : Held (m .header) (e .name) t) (a : Agree m)
-    (room : m .header .length < length (m .queue)) (place : ℕ) where
+    (room : m .header .ring .length < length (m .queue)) (place : ℕ) where
   abbrev left : ℕ
   left = getD (m .header .counts) (e .name) 0
 
@@ -126,7 +126,7 @@ module _ (e : Entry) (m : Machine) (t : List ℕ) (s : SoundHeader m) (r : Held 
       ne-eqb _ 0 (λ (z : entriesOf (queued x e m .machine) t ≡ 0). let f : ⊥ = omega arith in f)
 
   split-pushes : (p c : ℕ) → 1 ≤ queued (splits p c) e m .pushes
-  split-pushes p c = go (full (push (entry p (e .thread) (e .name)) m))
+  split-pushes p c = go (full (push (entry p (e .thread) (e .name)) m) (e .name))
     where
       go : (b : Bool)
           → 1 ≤ cond {A = Queued} b (record { machine = push (entry p (e .thread) (e .name)) m; pushes = 1 })

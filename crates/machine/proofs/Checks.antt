@@ -2,14 +2,14 @@
 -- Assumes nothing.
 use Prim.Native.Nat.{ℕ}
 use mathlib.Core.Path.{_≡_, refl, sym, ap, subst, _∙_}
-use mathlib.Core.Bool.{Bool, true, false, cond, not, _||_, true≢false, false≢true}
+use mathlib.Core.Bool.{Bool, true, false, cond, not, _&&_, _||_, true≢false, false≢true}
 use mathlib.Core.List.{List, [], _∷_}
 use mathlib.Core.Logic.{_⊎_, inl, inr}
 use lib.Dec.{T, eqb}
 use borrow.Author.Tests.{eqb-true, eq-eqb, not-true}
 use Rattle.laws.specs.Lists.{every}
 use Rattle.laws.proofs.Tests.{both}
-use Rattle.machine.specs.State.{Machine, Outcome, Check, Verdict, accepted, refusal, first, settle}
+use Rattle.machine.specs.State.{Machine, Outcome, Check, Verdict, accepted, refusal, first, passes, settle}
 
 abbrev isAccepted : Verdict → Bool
 isAccepted accepted = true
@@ -24,14 +24,33 @@ abbrev pub Passes : List Check → Type 0
 Passes [] = Unit {0}
 Passes (c ∷ cs) = (c .applies ≡ false) × Passes cs
 
-pub passes : (cs : List Check) → first cs ≡ accepted → Passes cs
-passes [] e = tt
-passes (c ∷ cs) e = go (c .applies) refl e (passes cs)
+pub passed : (cs : List Check) → first cs ≡ accepted → Passes cs
+passed [] e = tt
+passed (c ∷ cs) e = go (c .applies) refl e (passed cs)
   where
     go : (b : Bool) → c .applies ≡ b → cond b (refusal (c .number) (c .value)) (first cs) ≡ accepted → (first cs ≡ accepted → Passes cs)
         → (c .applies ≡ false) × Passes cs
     go true h e r = absurd (false≢true (ap isAccepted e))
     go false h e r = (h, r e)
+
+-- that no row applies is also a test
+pub accepts : (cs : List Check) → passes cs ≡ true → first cs ≡ accepted
+accepts [] e = refl
+accepts (c ∷ cs) e = go (c .applies) e (accepts cs)
+  where
+    go : (b : Bool) → (not b && passes cs) ≡ true → (passes cs ≡ true → first cs ≡ accepted)
+        → cond b (refusal (c .number) (c .value)) (first cs) ≡ accepted
+    go true e r = absurd (false≢true e)
+    go false e r = r e
+
+pub accepted-passes : (cs : List Check) → first cs ≡ accepted → passes cs ≡ true
+accepted-passes [] e = refl
+accepted-passes (c ∷ cs) e = go (c .applies) e (accepted-passes cs)
+  where
+    go : (b : Bool) → cond b (refusal (c .number) (c .value)) (first cs) ≡ accepted → (first cs ≡ accepted → passes cs ≡ true)
+        → (not b && passes cs) ≡ true
+    go true e r = absurd (false≢true (ap isAccepted e))
+    go false e r = r e
 
 -- refused: the number is that of a row
 abbrev pub Numbers : (ℕ → Type 0) → List Check → Type 0

@@ -12,13 +12,13 @@ use lib.ListN.{getD}
 use Rattle.laws.specs.Lists.{every}
 use Rattle.laws.proofs.Numbers.{below}
 use Rattle.laws.proofs.Every.{_and_, Every, every-or}
-use Rattle.load_file.specs.declared.Cell.{Cell}
-use Rattle.load_file.specs.Offset.{ahead}
-use Rattle.load_file.specs.Types.{Field, Pair, pairs}
-use Rattle.load_file.specs.Cells.{number}
-use Rattle.load_file.specs.Modifier.{I}
-use Rattle.load_file.proofs.Offsets.{ahead-lt}
-use Rattle.load_file.proofs.Soundness.{Sound}
+use Rattle.cell.specs.declared.Cell.{Cell}
+use Rattle.offset.specs.Offset.{ahead}
+use Rattle.types.specs.Types.{Field, Pair, pairs}
+use Rattle.cell.specs.Cells.{number}
+use Rattle.types.specs.Modifier.{I}
+use Rattle.offset.proofs.Offsets.{ahead-lt}
+use Rattle.cell.proofs.Soundness.{Sound}
 use Rattle.machine.specs.Pointers.{less}
 use Rattle.machine.specs.Execution.{Ending, divisor, Next, ends, goes, splits, Effect, Scene, Met, mets, some?, onward, going, branch, skip, moved, sum, difference, product, quotient, remainder, lowered, isNone, put, stored, computes, copied, equal, effects, effectOf}
 use Rattle.machine.proofs.Pointers.{number-lt, with-sound}
@@ -84,7 +84,7 @@ remainder-bounded : (size : ℕ) → 0 < size → Bounded size (remainder size)
 remainder-bounded size h a zero p q = tt
 remainder-bounded size h a (suc b) p q = mod-lt _ h
 
-module _ (s : Scene) (j : s .jump < s .size) (ra : Sound (s .size) (s .ra)) (rb : Sound (s .size) (s .rb)) (live : Sound (s .size) (s .live)) where
+module _ (s : Scene) (j : s .jump < s .size) (ra : Sound (s .size) (s .ra)) (rb : Sound (s .size) (s .rb)) (target : Sound (s .size) (s .target)) where
   positive : 0 < s .size
   positive = omega (arith, j)
 
@@ -117,9 +117,9 @@ module _ (s : Scene) (j : s .jump < s .size) (ra : Sound (s .size) (s .ra)) (rb 
   copied-sound = go (eqb (s .modifier) I)
     where
       go : (b : Bool)
-          → Sound (s .size) (cond b (record { opcode = s .ra .opcode; modifier = s .ra .modifier; «a_mode» = s .live .«a_mode»; «b_mode» = s .live .«b_mode»; a = s .live .a; b = s .live .b }) (s .live))
-      go true = record { opcode = ra .opcode; modifier = ra .modifier; a-mode = live .a-mode; b-mode = live .b-mode; a = live .a; b = live .b }
-      go false = live
+          → Sound (s .size) (cond b (record { opcode = s .ra .opcode; modifier = s .ra .modifier; «a_mode» = s .target .«a_mode»; «b_mode» = s .target .«b_mode»; a = s .target .a; b = s .target .b }) (s .target))
+      go true = record { opcode = ra .opcode; modifier = ra .modifier; a-mode = target .a-mode; b-mode = target .b-mode; a = target .a; b = target .b }
+      go false = target
 
   -- row by row
   pub effect-sound : (opcode : ℕ) → SoundEffect (s .size) (effectOf opcode s)
@@ -133,16 +133,16 @@ module _ (s : Scene) (j : s .jump < s .size) (ra : Sound (s .size) (s .ra)) (rb 
       rows =
           record { cell = tt; next = tt }
           and computes-sound moved (copied s) (λ a b p q. p) copied-sound
-          and computes-sound sum (s .live) (λ a b p q. below _) live
-          and computes-sound difference (s .live) (λ a b p q. below _) live
-          and computes-sound product (s .live) (λ a b p q. below _) live
-          and computes-sound quotient (s .live) (quotient-bounded (s .size) positive) live
-          and computes-sound remainder (s .live) (remainder-bounded (s .size) positive) live
+          and computes-sound sum (s .target) (λ a b p q. below _) target
+          and computes-sound difference (s .target) (λ a b p q. below _) target
+          and computes-sound product (s .target) (λ a b p q. below _) target
+          and computes-sound quotient (s .target) (quotient-bounded (s .size) positive) target
+          and computes-sound remainder (s .target) (remainder-bounded (s .size) positive) target
           and record { cell = tt; next = j }
           and branch-sound (some? (λ x. eqb (x .b) 0) s) (s .jump) j
           and branch-sound (some? (λ x. not (eqb (x .b) 0)) s) (s .jump) j
           and record {
-            cell = stored-sound (s .size) (lowered (s .size)) (mets s) (s .live) (λ a b p q. below _) mets-small live;
+            cell = stored-sound (s .size) (lowered (s .size)) (mets s) (s .target) (λ a b p q. below _) mets-small target;
             next = cond-lt (s .size) (some? (λ x. not (eqb (less (s .size) (x .b)) 0)) s) (s .jump) (onward s) j onward-lt;
           }
           and skip-sound (equal s)
@@ -154,7 +154,7 @@ module _ (s : Scene) (j : s .jump < s .size) (ra : Sound (s .size) (s .ra)) (rb 
           and tt
 
 -- a result for each pair: all are stored, and the process goes on
-pub row-computes : (v : ℕ → ℕ → ℕ → ℕ) (M pc jump : ℕ) (ra rb live c : Cell) (k : ℕ) → k < 7
-    → computes (record { size = M; modifier = k; pc = pc; jump = jump; ra = ra; rb = rb; live = live }) (λ size a b. some (v size a b)) c
+pub row-computes : (v : ℕ → ℕ → ℕ → ℕ) (M pc jump : ℕ) (ra rb live target c : Cell) (k : ℕ) → k < 7
+    → computes (record { size = M; modifier = k; pc = pc; jump = jump; ra = ra; rb = rb; live = live; target = target }) (λ size a b. some (v size a b)) c
     ≡ record { cell = some (stored (λ a b. some (v M a b)) (row k ra rb) c); next = goes (ahead M pc 1) }
-row-computes v M pc jump ra rb live c = below _ 7 (refl and refl and refl and refl and refl and refl and refl and tt)
+row-computes v M pc jump ra rb live target c = below _ 7 (refl and refl and refl and refl and refl and refl and refl and tt)

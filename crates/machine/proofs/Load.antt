@@ -1,85 +1,31 @@
--- Laws of fresh and load. For every machine: refusals, lengths, what an accepted call leaves. A sound header and a sound core stay sound.
+-- Laws of load. For every machine: refusals, lengths, what an accepted call leaves. A sound header and a sound core stay sound.
 -- Assumes nothing.
 use Prim.Native.Nat.{ℕ, _≤_, _<_}
-use mathlib.Core.Path.{_≡_, refl, sym, ap, ap₂, _∙_}
-use mathlib.Core.Bool.{Bool, true, false, cond, _&&_, true≢false}
+use mathlib.Core.Path.{_≡_, refl, sym, ap, _∙_}
+use mathlib.Core.Bool.{Bool, true, false, cond, true≢false}
 use mathlib.Core.List.{List, [], _∷_}
 use native.Mathlib.Omega.{arith}
 use lib.Dec.{eqb, ltb}
 use lib.ListN.{length, set, length-set}
-use borrow.Author.Tests.{leb-false, ltb-false, eq-eqb, not-false}
+use borrow.Author.Tests.{leb-false, ltb-false, not-false}
 use Rattle.laws.proofs.Tests.{neither}
 use Rattle.laws.proofs.Every.{_and_, Every}
-use Rattle.load_file.specs.Cells.{soundWord}
-use Rattle.load_file.specs.Offset.{ahead}
+use Rattle.cell.specs.Cells.{soundWord}
+use Rattle.offset.specs.Offset.{ahead}
 use Rattle.program.specs.Program.{instructions, lowestFault, cells}
-use Rattle.program.specs.Metadata.{validName, called}
+use Rattle.metadata.specs.Metadata.{validName, called}
 use Rattle.program.proofs.Program.{cells-sound}
-use Rattle.program.proofs.Names.{called-valid}
+use Rattle.metadata.proofs.Names.{called-valid}
 use Rattle.machine.specs.declared.Header.{Header}
-use Rattle.machine.specs.State.{Machine, Outcome, Verdict, accepted, refusal, first, settle, toldBy}
-use Rattle.machine.specs.Names.{slot, isNew, register, registered, numbered}
+use Rattle.machine.specs.declared.Ring.{Ring}
+use Rattle.machine.specs.State.{Machine, Outcome, Verdict, accepted, refusal, first, settle}
+use Rattle.machine.specs.Names.{slot, isNew, seventeenth, register, registered, numbered}
 use Rattle.machine.specs.Queue.{slots, entries, push, started}
-use Rattle.machine.specs.Soundness.{validSize, validQueue}
-use Rattle.machine.specs.Load.{blank, freshChecks, freshMachine, fresh, placed, loaded, loadChecks, load}
-use Rattle.machine.proofs.Checks.{passes, number-of, Refused, refused}
+use Rattle.machine.specs.Load.{placed, loaded, loadChecks, load}
+use Rattle.machine.proofs.Checks.{passed, number-of, Refused, refused}
 use Rattle.machine.proofs.Names.{Held}
 use Rattle.machine.proofs.Soundness.{SoundHeader, holding, registered-sound, registered-held, started-sound}
 use Rattle.machine.proofs.Pointers.{SoundCore, word-set}
-
--- fresh
-module _ (size : ℕ) (core queue : List ℕ) where
-  abbrev lent : Machine
-  lent = record { core = core; queue = queue; header = blank 0 }
-
-  pub fresh-by-cases : (P : Outcome → Type 0)
-      → ((n v : ℕ) → eqb n 0 ≡ false → P (record { machine = lent; number = n; value = v; writes = 0; steps = 0; pushes = 0 }))
-      → (first (freshChecks size core queue) ≡ accepted
-      → P (record { machine = freshMachine size core queue; number = 0; value = 0; writes = 0; steps = 0; pushes = 0 }))
-      → P (fresh size core queue)
-  unfolding fresh
-  fresh-by-cases P r a = go (first (freshChecks size core queue)) refl
-    where
-      go : (v : Verdict) → first (freshChecks size core queue) ≡ v
-          → P (settle v lent (record { machine = freshMachine size core queue; number = 0; value = 0; writes = 0; steps = 0; pushes = 0 }))
-      go accepted e = a e
-      go (refusal n v) e = r n v (number-of (λ n. eqb n 0 ≡ false) (freshChecks size core queue) (refl and refl and tt) n v e)
-
-  -- refused: what was lent is as it was
-  pub fresh-refused : eqb (fresh size core queue .number) 0 ≡ false → Refused lent (fresh size core queue)
-  fresh-refused =
-      fresh-by-cases (λ o. eqb (o .number) 0 ≡ false → Refused lent o)
-      (λ n v x f. record { machine = refl; writes = refl; steps = refl; pushes = refl }) (λ e f. absurd (true≢false f))
-
-  pub fresh-accepted : fresh size core queue .number ≡ 0
-      → (first (freshChecks size core queue) ≡ accepted) × (fresh size core queue .machine ≡ freshMachine size core queue)
-  fresh-accepted =
-      fresh-by-cases (λ o. o .number ≡ 0 → (first (freshChecks size core queue) ≡ accepted) × (o .machine ≡ freshMachine size core queue))
-      (λ n v x z. absurd (true≢false (sym (rw z) ∙ x))) (λ e z. (e, refl))
-
--- it accepts every valid size and queue length
-pub fresh-accepts : (size : ℕ) (core queue : List ℕ) → validSize size ≡ true → length core ≡ size → validQueue (length queue) ≡ true
-    → fresh size core queue .number ≡ 0
-unfolding fresh
-fresh-accepts size core queue v c q = rw (v, eq-eqb (length core) size c, q)
-
--- it makes the same machine of any memories of the same lengths
-pub fresh-lengths : (size : ℕ) (core queue core′ queue′ : List ℕ) → length core′ ≡ length core → length queue′ ≡ length queue
-    → fresh size core queue .number ≡ 0 → fresh size core′ queue′ .machine ≡ fresh size core queue .machine
-unfolding fresh
-fresh-lengths size core queue core′ queue′ a b ok =
-    let e : first (freshChecks size core queue) ≡ accepted = fresh-accepted size core queue ok .0 in
-    rw (a, b, e)
-
--- and it tells the same of them, refused or not
-pub fresh-tells : (size : ℕ) (core queue core′ queue′ : List ℕ) → length core′ ≡ length core → length queue′ ≡ length queue
-    → toldBy (fresh size core′ queue′) ≡ toldBy (fresh size core queue)
-unfolding fresh
-fresh-tells size core queue core′ queue′ a b = rw (a, b) (settled (first (freshChecks size core queue)) _ _ _ _ refl)
-  where
-    settled : (v : Verdict) (m m′ : Machine) (o o′ : Outcome) → toldBy o ≡ toldBy o′ → toldBy (settle v m o) ≡ toldBy (settle v m′ o′)
-    settled accepted m m′ o o′ e = e
-    settled (refusal n v) m m′ o o′ e = refl
 
 -- the body in the core
 pub length-placed : (ws core : List ℕ) (p : ℕ) → length (placed core p ws) ≡ length core
@@ -92,47 +38,45 @@ placed-sound size (w ∷ ws) core p e c = placed-sound size ws (set core p w) (a
 
 -- registering leaves the numbers of the header alone
 record Renamed (h h′ : Header) : Type 0 where
-  size : h′ .size ≡ h .size
-  head : h′ .head ≡ h .head
-  length : h′ .length ≡ h .length
+  rules : h′ .rules ≡ h .rules
+  ring : h′ .ring ≡ h .ring
   steps : h′ .steps ≡ h .steps
 
 renamed : (h : Header) (n : List ℕ) → Renamed h (registered h n)
 unfolding register
-renamed h n = go (isNew h n)
+renamed h n = go (isNew (h .names) n)
   where
     go : (b : Bool) → Renamed h (cond b (register h n) h)
-    go true = record { size = refl; head = refl; length = refl; steps = refl }
-    go false = record { size = refl; head = refl; length = refl; steps = refl }
+    go true = record { rules = refl; ring = refl; steps = refl }
+    go false = record { rules = refl; ring = refl; steps = refl }
 
 -- an accepted load: what its checks told
 pub record Loadable (m : Machine) (given body : List ℕ) (place : ℕ) : Type 0 where
-  pub short : instructions body ≤ m .header .size
+  pub short : instructions body ≤ m .header .rules .size
   pub lawful : ltb (lowestFault body) (instructions body) ≡ false
   pub valid : validName given ≡ true
-  pub inside : place < m .header .size
-  pub room : m .header .length < length (m .queue)
-  pub free : (isNew (m .header) (called given) && eqb (m .header .held) 16) ≡ false
+  pub inside : place < m .header .rules .size
+  pub room : m .header .ring .length < length (m .queue)
+  pub free : seventeenth (m .header .names) (called given) ≡ false
 
 pub loadable : (m : Machine) (given body : List ℕ) (place : ℕ) → first (loadChecks m given body place) ≡ accepted → Loadable m given body place
 loadable m given body place e =
-    let p = passes (loadChecks m given body place) e in
+    let p = passed (loadChecks m given body place) e in
     let five = neither _ _ (p .1 .1 .1 .0) in
-    let six = neither _ _ (p .1 .1 .1 .1 .0) in
     record {
       short = ltb-false _ _ (p .1 .0);
       lawful = p .1 .1 .0;
       valid = not-false _ (five .0);
       inside = leb-false _ _ (five .1);
-      room = leb-false _ _ (six .0);
-      free = six .1;
+      room = leb-false _ _ (p .1 .1 .1 .1 .1 .0);
+      free = p .1 .1 .1 .1 .0;
     }
 
 -- what it leaves
 pub record Loaded (m : Machine) (body : List ℕ) (place : ℕ) (o : Outcome) : Type 0 where
-  pub core : o .machine .core ≡ placed (m .core) place (cells (m .header .size) body)
+  pub core : o .machine .core ≡ placed (m .core) place (cells (m .header .rules .size) body)
   pub queue : length (o .machine .queue) ≡ length (m .queue)
-  pub size : o .machine .header .size ≡ m .header .size
+  pub rules : o .machine .header .rules ≡ m .header .rules
   pub steps : o .machine .header .steps ≡ m .header .steps
   pub number : o .number ≡ 0
   pub writes : o .writes ≡ instructions body
@@ -141,25 +85,25 @@ pub record Loaded (m : Machine) (body : List ℕ) (place : ℕ) (o : Outcome) : 
 module _ (m : Machine) (given body : List ℕ) (place : ℕ) where
   -- the body in the core and the name held; the entry is pushed next
   abbrev pub placing : Machine
-  placing = holding (placed (m .core) place (cells (m .header .size) body)) (registered (m .header) (called given)) m
+  placing = holding (placed (m .core) place (cells (m .header .rules .size) body)) (registered (m .header) (called given)) m
 
-  pub placing-room : m .header .length < length (m .queue) → placing .header .length < length (m .queue)
-  placing-room h = rw (renamed (m .header) (called given) .length) h
+  pub placing-room : m .header .ring .length < length (m .queue) → placing .header .ring .length < length (m .queue)
+  placing-room h = rw (renamed (m .header) (called given) .ring) h
 
   pub placing-entries : entries placing ≡ entries m
   unfolding entries
-  placing-entries = let r = renamed (m .header) (called given) in ap₂ (slots (m .queue)) (r .head) (r .length)
+  placing-entries = ap (λ (r : Ring). slots (m .queue) (r .head) (r .length)) (renamed (m .header) (called given) .ring)
 
-  pub placing-size : placing .header .size ≡ m .header .size
-  placing-size = renamed (m .header) (called given) .size
+  pub placing-rules : placing .header .rules ≡ m .header .rules
+  placing-rules = renamed (m .header) (called given) .rules
 
   pub placing-sound : SoundHeader m → Loadable m given body place → SoundHeader placing
   placing-sound s l =
       let v = called-valid given (l .valid) in
-      registered-sound m s (placed (m .core) place (cells (m .header .size) body))
-      (length-placed (cells (m .header .size) body) (m .core) place ∙ s .core) (called given) (v .0) (v .1) (v .2) (l .free)
+      registered-sound m s (placed (m .core) place (cells (m .header .rules .size) body))
+      (length-placed (cells (m .header .rules .size) body) (m .core) place ∙ s .core) (called given) (v .0) (v .1) (v .2) (l .free)
 
-  pub placing-held : SoundHeader m → Loadable m given body place → Held (placing .header) (slot (m .header) (called given)) (called given)
+  pub placing-held : SoundHeader m → Loadable m given body place → Held (placing .header) (slot (m .header .names) (called given)) (called given)
   placing-held s l = registered-held m (called given) s (l .free) (called-valid given (l .valid) .0)
 
 module _ (m : Machine) (given body : List ℕ) (origin place : ℕ) where
@@ -167,7 +111,7 @@ module _ (m : Machine) (given body : List ℕ) (origin place : ℕ) where
   unfolding loaded started push numbered
   is-loaded =
       let r = renamed (m .header) (called given) in
-      record { core = refl; queue = length-set (m .queue) _ _; size = r .size; steps = r .steps; number = refl; writes = refl; pushes = refl }
+      record { core = refl; queue = length-set (m .queue) _ _; rules = r .rules; steps = r .steps; number = refl; writes = refl; pushes = refl }
 
   -- a load is refused, and leaves the machine as it was, or it is accepted
   pub load-by-cases : (P : Outcome → Type 0)
@@ -180,7 +124,7 @@ module _ (m : Machine) (given body : List ℕ) (origin place : ℕ) where
       go : (v : Verdict) → first (loadChecks m given body place) ≡ v → P (settle v m (loaded m (called given) body origin place))
       go accepted e = a e
       go (refusal n v) e =
-          r n v e (number-of (λ n. eqb n 0 ≡ false) (loadChecks m given body place) (refl and refl and refl and refl and refl and refl and tt) n v e)
+          r n v e (number-of (λ n. eqb n 0 ≡ false) (loadChecks m given body place) (refl and refl and refl and refl and refl and refl and refl and tt) n v e)
 
   pub load-refused : eqb (load m given body origin place .number) 0 ≡ false → Refused m (load m given body origin place)
   load-refused =
@@ -192,36 +136,36 @@ module _ (m : Machine) (given body : List ℕ) (origin place : ℕ) where
       load-by-cases (λ o. o .number ≡ 0 → Loadable m given body place × Loaded m body place o)
       (λ n v e x z. absurd (true≢false (sym (rw z) ∙ x))) (λ e z. (loadable m given body place e, is-loaded))
 
-  -- steps taken, the lengths of core and queue, and the size
+  -- steps taken, the lengths of core and queue, and the rules
   pub load-counts : load m given body origin place .machine .header .steps ≡ m .header .steps
   load-counts = load-by-cases (λ o. o .machine .header .steps ≡ m .header .steps) (λ n v e x. refl) (λ e. is-loaded .steps)
 
   pub load-lengths : (length (load m given body origin place .machine .core) ≡ length (m .core))
       × (length (load m given body origin place .machine .queue) ≡ length (m .queue))
-      × (load m given body origin place .machine .header .size ≡ m .header .size)
+      × (load m given body origin place .machine .header .rules ≡ m .header .rules)
   load-lengths =
-      load-by-cases (λ o. (length (o .machine .core) ≡ length (m .core)) × (length (o .machine .queue) ≡ length (m .queue)) × (o .machine .header .size ≡ m .header .size))
+      load-by-cases (λ o. (length (o .machine .core) ≡ length (m .core)) × (length (o .machine .queue) ≡ length (m .queue)) × (o .machine .header .rules ≡ m .header .rules))
       (λ n v e x. (refl, refl, refl))
-      (λ e. (ap length (is-loaded .core) ∙ length-placed (cells (m .header .size) body) (m .core) place, is-loaded .queue, is-loaded .size))
+      (λ e. (ap length (is-loaded .core) ∙ length-placed (cells (m .header .rules .size) body) (m .core) place, is-loaded .queue, is-loaded .rules))
 
   -- a sound header stays sound
   pub loaded-sound : SoundHeader m → Loadable m given body place → SoundHeader (loaded m (called given) body origin place .machine)
   unfolding loaded
   loaded-sound s l =
-      started-sound _ (slot (m .header) (called given)) (placing m given body place) (placing-sound m given body place s l)
+      started-sound _ (slot (m .header .names) (called given)) (placing m given body place) (placing-sound m given body place s l)
       (placing-held m given body place s l .below) (placing-room m given body place (l .room))
 
   pub load-sound : SoundHeader m → SoundHeader (load m given body origin place .machine)
   load-sound s = load-by-cases (λ o. SoundHeader (o .machine)) (λ n v e x. s) (λ e. loaded-sound s (loadable m given body place e))
 
   -- a sound core stays sound
-  pub loaded-core-sound : Loadable m given body place → SoundCore (m .header .size) (m .core)
-      → SoundCore (m .header .size) (loaded m (called given) body origin place .machine .core)
+  pub loaded-core-sound : Loadable m given body place → SoundCore (m .header .rules .size) (m .core)
+      → SoundCore (m .header .rules .size) (loaded m (called given) body origin place .machine .core)
   loaded-core-sound l c =
       rw (is-loaded .core)
-      (placed-sound (m .header .size) (cells (m .header .size) body) (m .core) place
-      (cells-sound (m .header .size) (let h = l .inside in omega arith) (c .small) body (l .lawful)) c)
+      (placed-sound (m .header .rules .size) (cells (m .header .rules .size) body) (m .core) place
+      (cells-sound (m .header .rules .size) (let h = l .inside in omega arith) (c .small) body (l .lawful)) c)
 
-  pub load-core-sound : SoundCore (m .header .size) (m .core) → SoundCore (m .header .size) (load m given body origin place .machine .core)
+  pub load-core-sound : SoundCore (m .header .rules .size) (m .core) → SoundCore (m .header .rules .size) (load m given body origin place .machine .core)
   load-core-sound c =
-      load-by-cases (λ o. SoundCore (m .header .size) (o .machine .core)) (λ n v e x. c) (λ e. loaded-core-sound (loadable m given body place e) c)
+      load-by-cases (λ o. SoundCore (m .header .rules .size) (o .machine .core)) (λ n v e x. c) (λ e. loaded-core-sound (loadable m given body place e) c)

@@ -1,15 +1,15 @@
 -- A machine that is sound all through is answered no 9 by load, step and run, and 0 by cell reading.
 -- Assumes nothing.
 use Prim.Native.Nat.{ℕ}
-use mathlib.Core.Path.{_≡_, refl, sym, ap, ap₂, _∙_}
-use mathlib.Core.Bool.{Bool, not, _&&_, true≢false}
+use mathlib.Core.Path.{_≡_, refl, sym, ap, _∙_}
+use mathlib.Core.Bool.{not, true≢false}
 use mathlib.Core.List.{List}
 use mathlib.Core.Logic.{inl, inr}
 use lib.IntN.{ℤ}
 use lib.ListN.{drop}
 use Rattle.laws.proofs.Every.{_and_}
-use Rattle.load_file.specs.Offset.{euclid}
-use Rattle.load_file.proofs.Offsets.{euclid-lt}
+use Rattle.offset.specs.Offset.{euclid}
+use Rattle.offset.proofs.Offsets.{euclid-lt}
 use Rattle.machine.specs.declared.Ceiling.{Ceiling}
 use Rattle.machine.specs.State.{Machine}
 use Rattle.machine.specs.Queue.{front}
@@ -20,7 +20,7 @@ use Rattle.machine.proofs.Checks.{other, Without, others, without}
 use Rattle.machine.proofs.Soundness.{header-sound, size-positive, entry-sound}
 use Rattle.machine.proofs.Pointers.{cell-at}
 use Rattle.machine.proofs.Load.{is-loaded, load-by-cases}
-use Rattle.machine.proofs.Step.{operand-a-sound, operand-b-sound, is-executed, step-by-cases, nonzero}
+use Rattle.machine.proofs.Step.{seen-sound, is-executed, step-by-cases, nonzero}
 use Rattle.machine.proofs.Run.{run-answers}
 use Rattle.machine.proofs.SoundMachine.{SoundMachine, sound-ready, step-keeps}
 
@@ -33,10 +33,9 @@ module _ (m : Machine) (s : SoundMachine m) where
       let r = sound-ready m s (nonzero b) in
       inl (ap not (entry-sound (m .header) (front m) (r .entry)))
       and λ c. inr (other tt)
-      and λ d. inl (ap not (cell-at (m .header .size) (m .core) (s .core) (pc m) (r .entry .place)))
+      and λ d. inl (ap not (cell-at (m .header .rules .size) (m .core) (s .core) (pc m) (r .entry .place)))
       and λ e. inr (other tt)
-      and λ f. inl
-      (ap₂ (λ (x y : Bool). not (x && y)) (operand-a-sound m (s .core) (r .entry .place) .sound) (operand-b-sound m (s .core) (r .entry .place) .sound))
+      and λ f. inl (ap not (seen-sound m (s .core) (r .entry .place)))
       and λ g. tt
 
   pub step-not-nine : step m .number ≡ 9 → ⊥
@@ -60,4 +59,4 @@ run-not-nine c m s = run-answers SoundMachine step-keeps (λ n. n ≡ 9 → ⊥)
 pub read-done : (m : Machine) → SoundMachine m → (z : ℤ) → read m z .number ≡ 0
 unfolding read
 read-done m s z =
-    rw (header-sound m (s .header), cell-at (m .header .size) (m .core) (s .core) (euclid z (m .header .size)) (euclid-lt z (m .header .size) (size-positive m (s .header))))
+    rw (header-sound m (s .header), cell-at (m .header .rules .size) (m .core) (s .core) (euclid z (m .header .rules .size)) (euclid-lt z (m .header .rules .size) (size-positive m (s .header))))

@@ -8,52 +8,60 @@ use native.Mathlib.Nat.{mod-lt}
 use native.Mathlib.Omega.{arith}
 use lib.ListN.{length, getD, set, length-set}
 use lib.Seq.{getD-set-same, getD-set-other}
+use Rattle.laws.specs.Lists.{every}
 use Rattle.laws.proofs.Every.{Every, every-at, every-set}
-use Rattle.load_file.specs.declared.Cell.{Cell}
-use Rattle.load_file.specs.Types.{Field, A, B}
-use Rattle.load_file.specs.Offset.{ahead}
-use Rattle.load_file.specs.Cells.{packed, unpacked, soundWord, number, withNumber}
-use Rattle.load_file.proofs.Offsets.{ahead-lt}
-use Rattle.load_file.proofs.Words.{word-range, with-range, unpack-pack}
-use Rattle.load_file.proofs.Soundness.{Sound, sound-fields, fields-sound}
-use Rattle.machine.specs.Pointers.{Reach, here, there, through, reaches, Turn, keeps, lowers, raises, turns, fieldOf, used, pointerOf, changed, before, after, turnWrites, Operand, operand}
+use Rattle.cell.specs.declared.Cell.{Cell}
+use Rattle.types.specs.Types.{Field, A, B}
+use Rattle.offset.specs.Offset.{ahead}
+use Rattle.cell.specs.Cells.{packed, unpacked, soundWord, number, withNumber, cellAt}
+use Rattle.offset.proofs.Offsets.{ahead-lt}
+use Rattle.cell.proofs.Words.{word-range, with-range, unpack-pack}
+use Rattle.cell.proofs.Soundness.{Sound, sound-fields, fields-sound}
+use Rattle.machine.specs.Pointers.{Reach, here, there, through, reaches, Shift, keeps, lowers, raises, shifts, fieldOf, used, pointerOf, changed, before, after, shifted, Site, Operand, operand}
 
 -- reading after a change
 pub changed-same : (f : Field) (core : List ℕ) (p x : ℕ) → p < length core → x < 65536
-    → unpacked (getD (changed core p f x) p 0) ≡ withNumber f x (unpacked (getD core p 0))
+    → cellAt (changed core p f x) p ≡ withNumber f x (cellAt core p)
 changed-same f core p x l h =
-    ap unpacked (getD-set-same core p (packed (withNumber f x (unpacked (getD core p 0)))) 0 l)
-    ∙ unpack-pack (withNumber f x (unpacked (getD core p 0))) (with-range f x _ h (word-range (getD core p 0)))
+    ap unpacked (getD-set-same core p (packed (withNumber f x (cellAt core p))) 0 l)
+    ∙ unpack-pack (withNumber f x (cellAt core p)) (with-range f x _ h (word-range (getD core p 0)))
 
-pub changed-other : (f : Field) (core : List ℕ) (p q x : ℕ) → (q ≡ p → ⊥) → unpacked (getD (changed core p f x) q 0) ≡ unpacked (getD core q 0)
-changed-other f core p q x h = ap unpacked (getD-set-other core p q (packed (withNumber f x (unpacked (getD core p 0)))) 0 h)
+pub changed-other : (f : Field) (core : List ℕ) (p q x : ℕ) → (q ≡ p → ⊥) → cellAt (changed core p f x) q ≡ cellAt core q
+changed-other f core p q x h = ap unpacked (getD-set-other core p q (packed (withNumber f x (cellAt core p))) 0 h)
 
 -- the core's length
-pub length-before : (t : Turn) (size : ℕ) (core : List ℕ) (l : ℕ) (f : Field) (x : ℕ) → length (before t size core l f x) ≡ length core
+pub length-before : (t : Shift) (size : ℕ) (core : List ℕ) (l : ℕ) (f : Field) (x : ℕ) → length (before t size core l f x) ≡ length core
 length-before keeps size core l f x = refl
 length-before lowers size core l f x = length-set core l _
 length-before raises size core l f x = refl
 
-length-after : (t : Turn) (size : ℕ) (core : List ℕ) (l : ℕ) (f : Field) (x : ℕ) → length (after t size core l f x) ≡ length core
+length-after : (t : Shift) (size : ℕ) (core : List ℕ) (l : ℕ) (f : Field) (x : ℕ) → length (after t size core l f x) ≡ length core
 length-after keeps size core l f x = refl
 length-after lowers size core l f x = refl
 length-after raises size core l f x = length-set core l _
 
-pub length-operand : (size : ℕ) (core : List ℕ) (pc mode n : ℕ) → length (operand size core pc mode n .core) ≡ length core
+pub length-operand : (s : Site) (core : List ℕ) (mode n : ℕ) → length (operand s core mode n .core) ≡ length core
 unfolding operand
-length-operand size core pc mode n =
-    let t = getD turns mode keeps in
-    length-after t size (before t size core (ahead size pc n) _ _) (ahead size pc n) _ _ ∙ length-before t size core (ahead size pc n) _ _
+length-operand s core mode n =
+    let size = s .rules .size in
+    let t = getD shifts mode keeps in
+    let l = ahead size (s .pc) n in
+    length-after t size (before t size core l _ _) l _ _ ∙ length-before t size core l _ _
 
--- one write at most
-turn-writes : (t : Turn) → turnWrites t ≤ 1
-turn-writes keeps = omega arith
-turn-writes lowers = omega arith
-turn-writes raises = omega arith
+-- one place written at most
+shifted-one : (t : Shift) (l : ℕ) → length (shifted t l) ≤ 1
+shifted-one keeps l = omega arith
+shifted-one lowers l = omega arith
+shifted-one raises l = omega arith
 
-pub operand-writes : (size : ℕ) (core : List ℕ) (pc mode n : ℕ) → operand size core pc mode n .writes ≤ 1
+pub operand-writes : (s : Site) (core : List ℕ) (mode n : ℕ) → length (operand s core mode n .written) ≤ 1
 unfolding operand
-operand-writes size core pc mode n = turn-writes (getD turns mode keeps)
+operand-writes s core mode n = shifted-one (getD shifts mode keeps) (ahead (s .rules .size) (s .pc) n)
+
+-- it reads and writes at one place
+pub one-pointer : (s : Site) (core : List ℕ) (mode n : ℕ) → operand s core mode n .write ≡ operand s core mode n .read
+unfolding operand
+one-pointer s core mode n = refl
 
 -- a core of that size whose cells are all sound
 pub record SoundCore (size : ℕ) (core : List ℕ) : Type 0 where
@@ -65,7 +73,7 @@ module _ (size : ℕ) where
   pub cell-at : (core : List ℕ) → SoundCore size core → (i : ℕ) → i < size → soundWord size (getD core i 0) ≡ true
   cell-at core c i h = every-at (λ w. soundWord size w ≡ true) core i 0 (c .cells) (rw (c .length) h)
 
-  pub fields-at : (core : List ℕ) → SoundCore size core → (i : ℕ) → i < size → Sound size (unpacked (getD core i 0))
+  pub fields-at : (core : List ℕ) → SoundCore size core → (i : ℕ) → i < size → Sound size (cellAt core i)
   fields-at core c i h = sound-fields size (getD core i 0) (cell-at core c i h) .1
 
   -- a sound word put at any place
@@ -87,12 +95,12 @@ module _ (size : ℕ) where
   changed-sound : (core : List ℕ) (l : ℕ) (f : Field) (x : ℕ) → SoundCore size core → l < size → x < size → SoundCore size (changed core l f x)
   changed-sound core l f x c hl hx = cell-set core l _ c (with-sound f x _ (fields-at core c l hl) hx)
 
-  before-sound : (t : Turn) (core : List ℕ) (l : ℕ) (f : Field) (x : ℕ) → SoundCore size core → l < size → SoundCore size (before t size core l f x)
+  before-sound : (t : Shift) (core : List ℕ) (l : ℕ) (f : Field) (x : ℕ) → SoundCore size core → l < size → SoundCore size (before t size core l f x)
   before-sound keeps core l f x c h = c
   before-sound lowers core l f x c h = changed-sound core l f _ c h (mod-lt _ (omega arith))
   before-sound raises core l f x c h = c
 
-  after-sound : (t : Turn) (core : List ℕ) (l : ℕ) (f : Field) (x : ℕ) → SoundCore size core → l < size → SoundCore size (after t size core l f x)
+  after-sound : (t : Shift) (core : List ℕ) (l : ℕ) (f : Field) (x : ℕ) → SoundCore size core → l < size → SoundCore size (after t size core l f x)
   after-sound keeps core l f x c h = c
   after-sound lowers core l f x c h = c
   after-sound raises core l f x c h = changed-sound core l f _ c h (mod-lt _ (omega arith))
@@ -105,23 +113,27 @@ module _ (size : ℕ) where
   -- an operand of a sound core: the cells read are sound, and so are those left
   pub record SoundOperand (o : Operand) : Type 0 where
     pub core : SoundCore size (o .core)
-    pub pointer : o .pointer < size
+    pub read : o .read < size
+    pub write : o .write < size
     pub register : Sound size (o .register)
-    pub sound : o .sound ≡ true
+    pub seen : every (soundWord size) (o .seen) ≡ true
 
-  pub operand-sound : (core : List ℕ) (pc mode n : ℕ) → SoundCore size core → pc < size → SoundOperand (operand size core pc mode n)
-  unfolding operand
-  operand-sound core pc mode n c h =
-      let place = ahead size pc n in
-      let l : place < size = ahead-lt size pc n (omega arith) in
-      let t = getD turns mode keeps in
-      let r = getD reaches mode here in
-      let x = number (fieldOf r) (unpacked (getD core place 0)) in
-      let b = before-sound t core place (fieldOf r) x c l in
-      let p = pointer-lt r pc place (used t size x) h l in
-      record {
-        core = after-sound t (before t size core place (fieldOf r) x) place (fieldOf r) x b l;
-        pointer = p;
-        register = fields-at _ b _ p;
-        sound = rw (cell-at core c place l, cell-at _ b _ p);
-      }
+pub operand-sound : (s : Site) (core : List ℕ) (mode n : ℕ) → SoundCore (s .rules .size) core → s .pc < s .rules .size
+    → SoundOperand (s .rules .size) (operand s core mode n)
+unfolding operand
+operand-sound s core mode n c h =
+    let size = s .rules .size in
+    let place = ahead size (s .pc) n in
+    let l : place < size = ahead-lt size (s .pc) n (omega arith) in
+    let t = getD shifts mode keeps in
+    let r = getD reaches mode here in
+    let x = number (fieldOf r) (cellAt core place) in
+    let b = before-sound size t core place (fieldOf r) x c l in
+    let p = pointer-lt size r (s .pc) place (used t size x) h l in
+    record {
+      core = after-sound size t (before t size core place (fieldOf r) x) place (fieldOf r) x b l;
+      read = p;
+      write = p;
+      register = fields-at size _ b _ p;
+      seen = rw (cell-at size core c place l, cell-at size _ b _ p);
+    }

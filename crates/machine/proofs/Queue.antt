@@ -13,7 +13,7 @@ use lib.Seq.{getD-set-same, getD-set-other}
 use Rattle.laws.specs.Lists.{oneIf, tally}
 use Rattle.laws.proofs.Every.{Every, every-append}
 use Rattle.laws.proofs.Tally.{tally-append}
-use Rattle.load_file.specs.Offset.{ahead}
+use Rattle.offset.specs.Offset.{ahead}
 use Rattle.machine.specs.declared.Entry.{Entry}
 use Rattle.machine.specs.State.{Machine}
 use Rattle.machine.specs.Queue.{packedEntry, slots, entries, front, pop, push}
@@ -41,32 +41,32 @@ slots-push q i (suc n) w hi hn =
     p = ahead (length q) i (suc n)
 
 -- the front entry is the first, and popping leaves the others
-pub entries-pop : (m : Machine) → 0 < m .header .length → entries m ≡ front m ∷ entries (pop m)
+pub entries-pop : (m : Machine) → 0 < m .header .ring .length → entries m ≡ front m ∷ entries (pop m)
 unfolding entries pop
-entries-pop m h = ap (slots (m .queue) (m .header .head)) e
+entries-pop m h = ap (slots (m .queue) (m .header .ring .head)) e
   where
-    e : m .header .length ≡ suc (m .header .length - 1)
+    e : m .header .ring .length ≡ suc (m .header .ring .length - 1)
     e = omega arith
 
 -- pushing adds one at the end
-pub entries-push : (e : Entry) (m : Machine) → m .header .head < length (m .queue) → m .header .length < length (m .queue)
+pub entries-push : (e : Entry) (m : Machine) → m .header .ring .head < length (m .queue) → m .header .ring .length < length (m .queue)
     → entries (push e m) ≡ entries m ++ (packedEntry e ∷ [])
 unfolding entries push
 entries-push e m h l =
-    ap (slots (set (m .queue) (ahead (length (m .queue)) (m .header .head) (m .header .length)) (packedEntry e)) (m .header .head)) one
-    ∙ slots-push (m .queue) (m .header .head) (m .header .length) (packedEntry e) h l
+    ap (slots (set (m .queue) (ahead (length (m .queue)) (m .header .ring .head) (m .header .ring .length)) (packedEntry e)) (m .header .ring .head)) one
+    ∙ slots-push (m .queue) (m .header .ring .head) (m .header .ring .length) (packedEntry e) h l
   where
-    one : m .header .length + 1 ≡ suc (m .header .length)
+    one : m .header .ring .length + 1 ≡ suc (m .header .ring .length)
     one = omega arith
 
-module _ (m : Machine) (some : 0 < m .header .length) where
+module _ (m : Machine) (some : 0 < m .header .ring .length) where
   pub tally-pop : (p : ℕ → Bool) → tally p (entries m) ≡ oneIf (p (front m)) + tally p (entries (pop m))
   tally-pop p = ap (tally p) (entries-pop m some)
 
   pub every-pop : (P : ℕ → Type 0) → Every P (entries m) → P (front m) × Every P (entries (pop m))
   every-pop P = subst (Every P) (entries-pop m some)
 
-module _ (e : Entry) (m : Machine) (head : m .header .head < length (m .queue)) (room : m .header .length < length (m .queue)) where
+module _ (e : Entry) (m : Machine) (head : m .header .ring .head < length (m .queue)) (room : m .header .ring .length < length (m .queue)) where
   pub tally-push : (p : ℕ → Bool) → tally p (entries (push e m)) ≡ tally p (entries m) + oneIf (p (packedEntry e))
   tally-push p =
       ap (tally p) (entries-push e m head room) ∙ tally-append p (entries m) (packedEntry e ∷ []) ∙ ap (λ (k : ℕ). tally p (entries m) + k) (add-zero _)

@@ -23,13 +23,13 @@ module _ (P : Queued → Type 0) (Q : ℕ → Type 0) (e : Entry) (m : Machine) 
 
   pub queued-by-cases : P (record { machine = m; pushes = 0 })
       → ((p : ℕ) → Q p → P (record { machine = next p; pushes = 1 }))
-      → ((p c : ℕ) → Q p → Q c → full (next p) ≡ false → P (record { machine = started c (e .name) (next p); pushes = 2 }))
+      → ((p c : ℕ) → Q p → Q c → full (next p) (e .name) ≡ false → P (record { machine = started c (e .name) (next p); pushes = 2 }))
       → (x : Next) → Places Q x → P (queued x e m)
   queued-by-cases nothing one two (ends x) q = nothing
   queued-by-cases nothing one two (goes p) q = one p q
-  queued-by-cases nothing one two (splits p c) q = go (full (next p)) refl
+  queued-by-cases nothing one two (splits p c) q = go (full (next p) (e .name)) refl
     where
-      go : (b : Bool) → full (next p) ≡ b
+      go : (b : Bool) → full (next p) (e .name) ≡ b
           → P (cond b (record { machine = next p; pushes = 1 }) (record { machine = started c (e .name) (next p); pushes = 2 }))
       go true f = one p (q .0)
       go false f = two p c (q .0) (q .1) f
@@ -44,28 +44,28 @@ any-places (splits p c) = (tt, tt)
 pub record QueueOnly (m : Machine) (q : Queued) : Type 0 where
   pub core : q .machine .core ≡ m .core
   pub queue : length (q .machine .queue) ≡ length (m .queue)
-  pub size : q .machine .header .size ≡ m .header .size
+  pub rules : q .machine .header .rules ≡ m .header .rules
   pub steps : q .machine .header .steps ≡ m .header .steps
-  pub names : (n : List ℕ) → isNew (q .machine .header) n ≡ isNew (m .header) n
+  pub names : (n : List ℕ) → isNew (q .machine .header .names) n ≡ isNew (m .header .names) n
   pub pushes : q .pushes ≤ 2
 
 pub queue-only : (x : Next) (e : Entry) (m : Machine) → QueueOnly m (queued x e m)
 unfolding push started numbered
 queue-only x e m =
     queued-by-cases (QueueOnly m) (λ p. Unit {0}) e m
-    (record { core = refl; queue = refl; size = refl; steps = refl; names = λ n. refl; pushes = omega arith })
-    (λ p q. record { core = refl; queue = length-set (m .queue) _ _; size = refl; steps = refl; names = λ n. refl; pushes = omega arith })
+    (record { core = refl; queue = refl; rules = refl; steps = refl; names = λ n. refl; pushes = omega arith })
+    (λ p q. record { core = refl; queue = length-set (m .queue) _ _; rules = refl; steps = refl; names = λ n. refl; pushes = omega arith })
     (λ p c q r f. record {
       core = refl;
       queue = length-set (push (entry p (e .thread) (e .name)) m .queue) _ _ ∙ length-set (m .queue) _ _;
-      size = refl;
+      rules = refl;
       steps = refl;
       names = λ n. refl;
       pushes = omega arith;
     }) x (any-places x)
 
 -- a sound header stays sound
-pub queued-sound : (x : Next) (e : Entry) (m : Machine) → SoundHeader m → e .name < m .header .held → m .header .length < length (m .queue)
+pub queued-sound : (x : Next) (e : Entry) (m : Machine) → SoundHeader m → e .name < m .header .names .held → m .header .ring .length < length (m .queue)
     → SoundHeader (queued x e m .machine)
 unfolding push
 queued-sound x e m s held room =

@@ -10,10 +10,10 @@ use lib.ListN.{length}
 use borrow.Author.Tests.{eqb-true}
 use Rattle.machine.specs.declared.Ceiling.{Ceiling}
 use Rattle.machine.specs.declared.Ceiling.the-variants.{Steps}
-use Rattle.machine.specs.State.{Machine, Outcome, accepted, refusal, settle}
+use Rattle.machine.specs.State.{Machine, Outcome, done, joined, accepted, refusal, settle}
 use Rattle.machine.specs.Soundness.{soundHeader}
 use Rattle.machine.specs.Step.{step, executes}
-use Rattle.machine.specs.Run.{joined, plays, ceilingOf, run}
+use Rattle.machine.specs.Run.{plays, ceilingOf, run}
 use Rattle.machine.proofs.Checks.{Refused, refused}
 use Rattle.machine.proofs.Names.{Shape}
 use Rattle.machine.proofs.Soundness.{SoundHeader, header-sound}
@@ -39,7 +39,7 @@ run-plays c m e = rw e
 module _ (c : Ceiling) (m : Machine) where
   -- the ceiling is reached: nothing is done
   pub run-done : soundHeader m ≡ true → ceilingOf c ≤ m .header .steps
-      → run c m ≡ record { machine = m; number = 0; value = 0; writes = 0; steps = 0; pushes = 0 }
+      → run c m ≡ done m 0 0
   run-done e h = run-plays c m e ∙ ap (λ (k : ℕ). plays k m) none
     where
       none : ceilingOf c - m .header .steps ≡ 0
@@ -146,11 +146,11 @@ module _ (P : Machine → Type 0) (kept : (m : Machine) → P m → P (step m .m
     pub run-answers : (c : Ceiling) (m : Machine) → soundHeader m ≡ true → P m → Q (run c m .number)
     run-answers c m e h = rw (run-plays c m e) (plays-answers (ceilingOf c - m .header .steps) m h)
 
--- the lengths of core and queue, and the size
+-- the lengths of core and queue, and the rules
 pub run-lengths : (c : Ceiling) (m : Machine)
-    → (length (run c m .machine .core) ≡ length (m .core)) × (length (run c m .machine .queue) ≡ length (m .queue)) × (run c m .machine .header .size ≡ m .header .size)
+    → (length (run c m .machine .core) ≡ length (m .core)) × (length (run c m .machine .queue) ≡ length (m .queue)) × (run c m .machine .header .rules ≡ m .header .rules)
 run-lengths c m =
-    run-keeps (λ n. (length (n .core) ≡ length (m .core)) × (length (n .queue) ≡ length (m .queue)) × (n .header .size ≡ m .header .size))
+    run-keeps (λ n. (length (n .core) ≡ length (m .core)) × (length (n .queue) ≡ length (m .queue)) × (n .header .rules ≡ m .header .rules))
     (λ n h. let s = step-lengths n in (s .0 ∙ h .0, s .1 ∙ h .1, s .2 ∙ h .2)) c m (refl, refl, refl)
 
 -- the steps that a run reports are those by which steps taken rise

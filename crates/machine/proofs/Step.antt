@@ -8,21 +8,23 @@ use mathlib.Core.Option.{Option, none, some}
 use native.Mathlib.Nat.{add-zero}
 use native.Mathlib.Omega.{arith}
 use lib.Dec.{eqb}
-use lib.ListN.{length, length-set}
+use lib.ListN.{length, length-append, length-set}
 use borrow.Author.Tests.{eqb-false, not-false}
-use Rattle.laws.specs.Lists.{oneIf, among}
+use Rattle.laws.specs.Lists.{oneIf, among, every}
 use Rattle.laws.proofs.Tests.{neither}
-use Rattle.laws.proofs.Every.{_and_}
+use Rattle.laws.proofs.Every.{_and_, every-join}
 use Rattle.answer.specs.Numbers.{Told, gives}
-use Rattle.load_file.specs.declared.Cell.{Cell}
-use Rattle.load_file.specs.Opcode.{LDP, STP}
+use Rattle.cell.specs.declared.Cell.{Cell}
+use Rattle.cell.specs.Cells.{soundWord}
+use Rattle.types.specs.Opcode.{LDP, STP}
 use Rattle.machine.specs.State.{Machine, Outcome, Verdict, accepted, refusal, first, settle}
 use Rattle.machine.specs.Names.{isNew}
 use Rattle.machine.specs.Queue.{front, nameOf, pop}
+use Rattle.machine.specs.Pointers.{Site}
 use Rattle.machine.specs.Execution.{Ending, dat, divisor, Next, ends, goes, splits}
-use Rattle.machine.specs.Instruction.{sceneAt, storeTo, storeWrites}
-use Rattle.machine.specs.Step.{popped, pc, instruction, operandA, operandB, effect, coreAfter, stepWrites, counted, endTold, nextTold, executed, stepChecks, step, executes}
-use Rattle.machine.proofs.Checks.{passes, number-of, Refused, refused}
+use Rattle.machine.specs.Instruction.{aOperand, bOperand, sceneAt, effectAt, storeTo, storedAt, seenAt, writtenAt}
+use Rattle.machine.specs.Step.{popped, pc, site, instruction, operandA, operandB, effect, coreAfter, stepWritten, stepWrites, counted, endTold, nextTold, executed, stepChecks, step, executes}
+use Rattle.machine.proofs.Checks.{passed, number-of, Refused, refused}
 use Rattle.machine.proofs.Names.{Shape, Held, held-at}
 use Rattle.machine.proofs.Soundness.{SoundHeader, sound-header, pop-sound, counted-sound, SoundEntry, sound-entry}
 use Rattle.machine.proofs.Pointers.{length-operand, operand-writes, SoundCore, cell-set, fields-at, SoundOperand, operand-sound}
@@ -37,56 +39,70 @@ length-store (some c) core p = length-set core p _
 pub length-core-after : (m : Machine) → length (coreAfter m) ≡ length (m .core)
 unfolding coreAfter effect
 length-core-after m =
-    length-store (effect m .cell) (operandB m .core) (operandB m .pointer)
-    ∙ length-operand (m .header .size) (operandA m .core) (pc m) (instruction m .«b_mode») _
-    ∙ length-operand (m .header .size) (m .core) (pc m) (instruction m .«a_mode») (instruction m .a .0)
+    length-store (effect m .cell) (operandB m .core) (operandB m .write)
+    ∙ length-operand (site m) (operandA m .core) (instruction m .«b_mode») _
+    ∙ length-operand (site m) (m .core) (instruction m .«a_mode») (instruction m .a .0)
 
--- at most three writes
-store-writes : (c : Option Cell) → storeWrites c ≤ 1
-store-writes none = omega arith
-store-writes (some c) = omega arith
+-- writes are those of both operands and the store, at most three
+stored-one : (c : Option Cell) (p : ℕ) → length (storedAt c p) ≤ 1
+stored-one none p = omega arith
+stored-one (some c) p = omega arith
+
+pub writes-at : (s : Site) (core : List ℕ)
+    → length (writtenAt s core)
+    ≡ length (aOperand s core .written) + (length (bOperand s core .written) + length (storedAt (effectAt s core .cell) (bOperand s core .write)))
+writes-at s core =
+    length-append (aOperand s core .written) _ ∙ ap (λ (k : ℕ). length (aOperand s core .written) + k) (length-append (bOperand s core .written) _)
+
+pub step-writes : (m : Machine)
+    → stepWrites m ≡ length (operandA m .written) + (length (operandB m .written) + length (storedAt (effect m .cell) (operandB m .write)))
+unfolding stepWritten effect
+step-writes m = writes-at (site m) (m .core)
 
 pub step-writes-three : (m : Machine) → stepWrites m ≤ 3
-unfolding stepWrites effect
 step-writes-three m =
-    let a : operandA m .writes ≤ 1 = operand-writes _ _ _ _ _ in
-    let b : operandB m .writes ≤ 1 = operand-writes _ _ _ _ _ in
-    let c : storeWrites (effect m .cell) ≤ 1 = store-writes (effect m .cell) in
-    omega arith
+    let a : length (operandA m .written) ≤ 1 = operand-writes _ _ _ _ in
+    let b : length (operandB m .written) ≤ 1 = operand-writes _ _ _ _ in
+    let c : length (storedAt (effect m .cell) (operandB m .write)) ≤ 1 = stored-one (effect m .cell) (operandB m .write) in
+    omega (arith, step-writes m)
 
 -- of a sound core, at a place of it: both operands read sound cells, the next places are places of it, and it stays sound
-module _ (m : Machine) (c : SoundCore (m .header .size) (m .core)) (h : pc m < m .header .size) where
-  pub operand-a-sound : SoundOperand (m .header .size) (operandA m)
-  operand-a-sound = operand-sound (m .header .size) (m .core) (pc m) (instruction m .«a_mode») (instruction m .a .0) c h
+module _ (m : Machine) (c : SoundCore (m .header .rules .size) (m .core)) (h : pc m < m .header .rules .size) where
+  pub operand-a-sound : SoundOperand (m .header .rules .size) (operandA m)
+  operand-a-sound = operand-sound (site m) (m .core) (instruction m .«a_mode») (instruction m .a .0) c h
 
-  pub operand-b-sound : SoundOperand (m .header .size) (operandB m)
-  operand-b-sound = operand-sound (m .header .size) (operandA m .core) (pc m) (instruction m .«b_mode») _ (operand-a-sound .core) h
+  pub operand-b-sound : SoundOperand (m .header .rules .size) (operandB m)
+  operand-b-sound = operand-sound (site m) (operandA m .core) (instruction m .«b_mode») _ (operand-a-sound .core) h
 
-  effect-is-sound : SoundEffect (m .header .size) (effect m)
+  pub seen-sound : every (soundWord (m .header .rules .size)) (seenAt (site m) (m .core)) ≡ true
+  seen-sound =
+      every-join (soundWord (m .header .rules .size)) (operandA m .seen) (operandB m .seen) ∙ rw (operand-a-sound .seen, operand-b-sound .seen)
+
+  effect-is-sound : SoundEffect (m .header .rules .size) (effect m)
   unfolding effect
   effect-is-sound =
-      effect-sound (sceneAt (m .header .size) (m .core) (pc m)) (operand-a-sound .pointer) (operand-a-sound .register) (operand-b-sound .register)
-      (fields-at (m .header .size) (operandB m .core) (operand-b-sound .core) (operandB m .pointer) (operand-b-sound .pointer))
+      effect-sound (sceneAt (site m) (m .core)) (operand-a-sound .read) (operand-a-sound .register) (operand-b-sound .register)
+      (fields-at (m .header .rules .size) (operandB m .core) (operand-b-sound .core) (operandB m .write) (operand-b-sound .write))
       (instruction m .opcode)
 
-  pub next-places : Places (λ p. p < m .header .size) (effect m .next)
+  pub next-places : Places (λ p. p < m .header .rules .size) (effect m .next)
   next-places = effect-is-sound .next
 
-  core-after-sound : SoundCore (m .header .size) (coreAfter m)
+  core-after-sound : SoundCore (m .header .rules .size) (coreAfter m)
   unfolding coreAfter effect
   core-after-sound = store (effect m .cell) (effect-is-sound .cell)
     where
-      store : (x : Option Cell) → SoundStore (m .header .size) x → SoundCore (m .header .size) (storeTo x (operandB m .core) (operandB m .pointer))
+      store : (x : Option Cell) → SoundStore (m .header .rules .size) x → SoundCore (m .header .rules .size) (storeTo x (operandB m .core) (operandB m .write))
       store none s = operand-b-sound .core
-      store (some x) s = cell-set (m .header .size) (operandB m .core) (operandB m .pointer) x (operand-b-sound .core) s
+      store (some x) s = cell-set (m .header .rules .size) (operandB m .core) (operandB m .write) x (operand-b-sound .core) s
 
 -- an instruction executed
 pub record Executed (m : Machine) (o : Outcome) : Type 0 where
   pub core : o .machine .core ≡ coreAfter m
   pub queue : length (o .machine .queue) ≡ length (m .queue)
-  pub size : o .machine .header .size ≡ m .header .size
+  pub rules : o .machine .header .rules ≡ m .header .rules
   pub steps : o .machine .header .steps ≡ m .header .steps + 1
-  pub names : (n : List ℕ) → isNew (o .machine .header) n ≡ isNew (m .header) n
+  pub names : (n : List ℕ) → isNew (o .machine .header .names) n ≡ isNew (m .header .names) n
   pub counted : o .steps ≡ 1
   pub writes : o .writes ≡ stepWrites m
   pub pushes : o .pushes ≤ 2
@@ -110,7 +126,7 @@ is-executed m =
     record {
       core = q .core;
       queue = q .queue;
-      size = q .size;
+      rules = q .rules;
       steps = q .steps;
       names = q .names;
       counted = refl;
@@ -168,29 +184,29 @@ step-value m =
     step-by-cases (λ o. o .number ≡ 0 → o .value ≡ 0) m (λ n v e x z. absurd (true≢false (sym (ap executes z) ∙ x)))
     (λ e. value-next (effect m .next) _ _)
 
--- the lengths of core and queue, and the size
+-- the lengths of core and queue, and the rules
 pub step-lengths : (m : Machine)
-    → (length (step m .machine .core) ≡ length (m .core)) × (length (step m .machine .queue) ≡ length (m .queue)) × (step m .machine .header .size ≡ m .header .size)
+    → (length (step m .machine .core) ≡ length (m .core)) × (length (step m .machine .queue) ≡ length (m .queue)) × (step m .machine .header .rules ≡ m .header .rules)
 step-lengths m =
-    step-by-cases (λ o. (length (o .machine .core) ≡ length (m .core)) × (length (o .machine .queue) ≡ length (m .queue)) × (o .machine .header .size ≡ m .header .size)) m
+    step-by-cases (λ o. (length (o .machine .core) ≡ length (m .core)) × (length (o .machine .queue) ≡ length (m .queue)) × (o .machine .header .rules ≡ m .header .rules)) m
     (λ n v e x. (refl, refl, refl))
-    (λ e. let i = is-executed m in (ap length (i .core) ∙ length-core-after m, i .queue, i .size))
+    (λ e. let i = is-executed m in (ap length (i .core) ∙ length-core-after m, i .queue, i .rules))
 
 -- a step that passed its checks: the queue is not empty, and header and front entry are sound
 pub record Ready (m : Machine) : Type 0 where
-  pub some : 0 < m .header .length
+  pub some : 0 < m .header .ring .length
   pub header : SoundHeader m
   pub entry : SoundEntry (m .header) (front m)
 
 pub nonzero : {k : ℕ} → eqb k 0 ≡ false → 0 < k
 nonzero {k} h = let f : k ≡ 0 → ⊥ = eqb-false k 0 h in omega arith
 
-pub step-some : (m : Machine) → first (stepChecks m) ≡ accepted → 0 < m .header .length
-step-some m e = nonzero (passes (stepChecks m) e .1 .0)
+pub step-some : (m : Machine) → first (stepChecks m) ≡ accepted → 0 < m .header .ring .length
+step-some m e = nonzero (passed (stepChecks m) e .1 .0)
 
 pub ready : (m : Machine) → Shape (m .header) → first (stepChecks m) ≡ accepted → Ready m
 ready m s e =
-    let p = passes (stepChecks m) e in
+    let p = passed (stepChecks m) e in
     record {
       some = nonzero (p .1 .0);
       header = sound-header m s (not-false _ (p .0));
@@ -213,18 +229,18 @@ module _ (m : Machine) (r : Ready m) where
   pub front-held : Held (m .header) (popped m .name) (nameOf m (front m))
   front-held = held-at (m .header) (popped m .name) (r .header .unlike) (r .entry .held)
 
-  pop-size : length (coreAfter m) ≡ pop m .header .size
+  pop-size : length (coreAfter m) ≡ pop m .header .rules .size
   unfolding pop
   pop-size = length-core-after m ∙ r .header .core
 
   pub counting-sound : SoundHeader (counting m)
   counting-sound = counted-sound (pop m) (pop-sound m (r .header) (r .some) (r .entry .held) (r .entry .count)) (coreAfter m) pop-size
 
-  pub counting-room : counting m .header .length < length (counting m .queue)
+  pub counting-room : counting m .header .ring .length < length (counting m .queue)
   unfolding counted pop
   counting-room = omega (arith, r .some, r .header .limit)
 
-  pub counting-held : popped m .name < counting m .header .held
+  pub counting-held : popped m .name < counting m .header .names .held
   unfolding counted pop
   counting-held = r .entry .held
 
@@ -238,11 +254,11 @@ pub step-sound : (m : Machine) → SoundHeader m → SoundHeader (step m .machin
 step-sound m s = step-by-cases (λ o. SoundHeader (o .machine)) m (λ n v e x. s) (λ e. executed-sound m (ready m (s .shape) e))
 
 -- a sound core stays sound
-pub executed-core-sound : (m : Machine) → SoundCore (m .header .size) (m .core) → pc m < m .header .size
-    → SoundCore (m .header .size) (executed m .machine .core)
+pub executed-core-sound : (m : Machine) → SoundCore (m .header .rules .size) (m .core) → pc m < m .header .rules .size
+    → SoundCore (m .header .rules .size) (executed m .machine .core)
 executed-core-sound m c h = rw (is-executed m .core) (core-after-sound m c h)
 
-pub step-core-sound : (m : Machine) → SoundCore (m .header .size) (m .core) → SoundCore (m .header .size) (step m .machine .core)
+pub step-core-sound : (m : Machine) → SoundCore (m .header .rules .size) (m .core) → SoundCore (m .header .rules .size) (step m .machine .core)
 step-core-sound m c =
-    step-by-cases (λ o. SoundCore (m .header .size) (o .machine .core)) m (λ n v e x. c)
-    (λ e. executed-core-sound m c (sound-entry (m .header) (front m) (not-false _ (passes (stepChecks m) e .1 .1 .0)) .place))
+    step-by-cases (λ o. SoundCore (m .header .rules .size) (o .machine .core)) m (λ n v e x. c)
+    (λ e. executed-core-sound m c (sound-entry (m .header) (front m) (not-false _ (passed (stepChecks m) e .1 .1 .0)) .place))

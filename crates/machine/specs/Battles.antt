@@ -4,22 +4,23 @@ use Prim.Native.Nat.{ℕ, _-_, _^_}
 use mathlib.Core.List.{List, [], _∷_, _++_}
 use lib.IntN.{pos, negsuc}
 use lib.ListN.{length, getD, replicate}
-use Rattle.load_file.specs.Offset.{euclid}
-use Rattle.load_file.specs.Cells.{packed, relative, freshCell, soundWord}
-use Rattle.load_file.specs.Defaults.{unnamed}
-use Rattle.load_file.specs.Opcode.{DAT, MOV, MUL, DIV, JMZ, SEQ, SPL}
-use Rattle.load_file.specs.Modifier as modifier
-use Rattle.load_file.specs.Mode as mode
-use Rattle.program.specs.Bytes.{spelled}
+use Rattle.offset.specs.Offset.{euclid}
+use Rattle.cell.specs.Cells.{packed, relative, freshCell, soundWord}
+use Rattle.types.specs.Defaults.{unnamed}
+use Rattle.types.specs.Opcode.{DAT, MOV, MUL, DIV, JMZ, SEQ, SPL}
+use Rattle.types.specs.Modifier as modifier
+use Rattle.types.specs.Mode as mode
+use Rattle.encoding.specs.Bytes.{spelled}
 use Rattle.program.specs.Program.{lawful, lowestFault, cells}
-use Rattle.machine.specs.State.{Machine}
+use Rattle.machine.specs.State.{ofSize, Machine}
 use Rattle.machine.specs.Names.{register, numbered}
 use Rattle.machine.specs.Queue.{unpackedEntry, entries, pop, push, started}
 use Rattle.machine.specs.Soundness.{soundHeader, soundEntry}
-use Rattle.machine.specs.Load.{fresh, loaded, load}
+use Rattle.machine.specs.Fresh.{fresh}
+use Rattle.machine.specs.Load.{loaded, load}
 use Rattle.machine.specs.Pointers.{operand}
 use Rattle.machine.specs.Execution.{effectOf}
-use Rattle.machine.specs.Step.{operandB, effect, coreAfter, stepWrites, counted, executed, step}
+use Rattle.machine.specs.Step.{operandB, effect, coreAfter, stepWritten, counted, executed, step}
 
 pub record Row : Type 0 where
   pub got : List ℕ
@@ -41,7 +42,7 @@ cell a b = word DAT modifier.F mode.Direct a mode.Direct b
 
 -- a fresh machine of that size and queue memory, with a body at 0 and one entry there
 abbrev pub board : ℕ → ℕ → List ℕ → Machine
-board size limit body = load (fresh size (replicate size 0) (replicate limit 0) .machine) [] body 65535 0 .machine
+board size limit body = load (fresh (ofSize size) (replicate size 0) (replicate limit 0) .machine) [] body 65535 0 .machine
 
 -- place and thread number of each entry
 abbrev pub threads : List ℕ → List ℕ
@@ -57,17 +58,17 @@ abbrev pub says : ℕ → ℕ → ℕ → List ℕ → List ℕ → List ℕ
 says number value writes told queue = number ∷ value ∷ writes ∷ (told ++ (replicate (8 - length told) freshCell ++ queue))
 
 unfoldable pub battles : List Row
-unfolding soundWord lawful lowestFault cells register numbered entries pop push started soundHeader soundEntry fresh loaded load operand effectOf effect coreAfter stepWrites counted executed step
+unfolding soundWord lawful lowestFault cells register numbered entries pop push started soundHeader soundEntry fresh loaded load operand effectOf effect coreAfter stepWritten counted executed step
 battles =
     -- −1 → 7; M 7: −2,147,483,648 → 5; M 46,341: 2,147,483,647 → 41,707
     record { got = euclid (negsuc 0) 8 ∷ euclid (negsuc 2147483647) 7 ∷ euclid (pos 2147483647) 46341 ∷ []; wanted = 7 ∷ 5 ∷ 41707 ∷ [] }
     -- sizes 0, 46,342 refused; 1, 46,341 accepted
     ∷ record {
       got =
-          fresh 0 [] (0 ∷ []) .number
-          ∷ fresh 46342 (replicate 46342 0) (0 ∷ []) .number
-          ∷ fresh 1 (0 ∷ []) (0 ∷ []) .number
-          ∷ fresh 46341 (replicate 46341 0) (0 ∷ []) .number
+          fresh (ofSize 0) [] (0 ∷ []) .number
+          ∷ fresh (ofSize 46342) (replicate 46342 0) (0 ∷ []) .number
+          ∷ fresh (ofSize 1) (0 ∷ []) (0 ∷ []) .number
+          ∷ fresh (ofSize 46341) (replicate 46341 0) (0 ∷ []) .number
           ∷ [];
       wanted = 1 ∷ 1 ∷ 0 ∷ 0 ∷ [];
     }
@@ -93,7 +94,7 @@ battles =
     -- MOV.A <0,$1: B number 0, target cell 0, 2 writes. The number moved is 0, so the target is the B pointer, given first
     ∷ record {
       got =
-          operandB (board 8 8 (bytes MOV modifier.A mode.PreDecIndirectB 0 mode.Direct 1)) .pointer
+          operandB (board 8 8 (bytes MOV modifier.A mode.PreDecIndirectB 0 mode.Direct 1)) .write
           ∷ battle 8 (bytes MOV modifier.A mode.PreDecIndirectB 0 mode.Direct 1);
       wanted = 0 ∷ says 0 0 2 (word MOV modifier.A mode.PreDecIndirectB 0 mode.Direct 0 ∷ []) (1 ∷ 0 ∷ []);
     }

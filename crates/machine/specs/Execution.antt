@@ -7,11 +7,11 @@ use mathlib.Core.Option.{Option, none, some}
 use lib.Dec.{eqb, ltb}
 use lib.ListN.{getD}
 use Rattle.laws.specs.Lists.{every}
-use Rattle.load_file.specs.declared.Cell.{Cell}
-use Rattle.load_file.specs.Offset.{ahead}
-use Rattle.load_file.specs.Types.{Field, pairs}
-use Rattle.load_file.specs.Cells.{packed, number, withNumber}
-use Rattle.load_file.specs.Modifier.{I}
+use Rattle.cell.specs.declared.Cell.{Cell}
+use Rattle.offset.specs.Offset.{ahead}
+use Rattle.types.specs.Types.{Field, pairs}
+use Rattle.cell.specs.Cells.{packed, number, withNumber}
+use Rattle.types.specs.Modifier.{I}
 use Rattle.machine.specs.Pointers.{less}
 
 -- how a process ends, and where it goes on
@@ -28,7 +28,7 @@ pub record Effect : Type 0 where
   pub cell : Option Cell
   pub next : Next
 
--- the executed instruction's modifier, PC, the A pointer, both registers and the live target cell
+-- the executed instruction's modifier, PC, the A pointer, both registers, the live cell at the B pointer and the target, which are one
 pub record Scene : Type 0 where
   pub size : ℕ
   pub modifier : ℕ
@@ -37,6 +37,7 @@ pub record Scene : Type 0 where
   pub ra : Cell
   pub rb : Cell
   pub live : Cell
+  pub target : Cell
 
 -- a, b and b's field, which is the target, for each pair
 pub record Met : Type 0 where
@@ -116,7 +117,7 @@ computes s f c =
 -- MOV.I also copies opcode and modifier, not modes
 abbrev pub copied : Scene → Cell
 copied s =
-    let c = s .live in
+    let c = s .target in
     cond (eqb (s .modifier) I)
     (record { opcode = s .ra .opcode; modifier = s .ra .modifier; «a_mode» = c .«a_mode»; «b_mode» = c .«b_mode»; a = c .a; b = c .b })
     c
@@ -125,11 +126,11 @@ copied s =
 abbrev pub counts : Scene → Effect
 counts s =
     record {
-      cell = some (stored (lowered (s .size)) (mets s) (s .live));
+      cell = some (stored (lowered (s .size)) (mets s) (s .target));
       next = goes (cond (some? (λ x. not (eqb (less (s .size) (x .b)) 0)) s) (s .jump) (onward s));
     }
 
--- all pairs are equal; under I the A register is also compared whole with the live target cell
+-- all pairs are equal; under I the A register is also compared whole with the live cell
 abbrev pub equal : Scene → Bool
 equal s = every (λ x. eqb (x .a) (x .b)) (mets s) && (not (eqb (s .modifier) I) || eqb (packed (s .ra)) (packed (s .live)))
 
@@ -138,11 +139,11 @@ abbrev pub effects : Scene → List Effect
 effects s =
     record { cell = none; next = ends dat }
     ∷ computes s moved (copied s)
-    ∷ computes s sum (s .live)
-    ∷ computes s difference (s .live)
-    ∷ computes s product (s .live)
-    ∷ computes s quotient (s .live)
-    ∷ computes s remainder (s .live)
+    ∷ computes s sum (s .target)
+    ∷ computes s difference (s .target)
+    ∷ computes s product (s .target)
+    ∷ computes s quotient (s .target)
+    ∷ computes s remainder (s .target)
     ∷ going (s .jump)
     ∷ branch s (some? (λ x. eqb (x .b) 0) s) (s .jump)
     ∷ branch s (some? (λ x. not (eqb (x .b) 0)) s) (s .jump)

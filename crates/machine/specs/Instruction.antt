@@ -1,59 +1,66 @@
--- One instruction, from the core and PC alone: both operands, then what it does (01, 'Pointers', 'One step').
+-- One instruction, from the core and its site alone: both operands, then what it does (01, 'Pointers', 'One step').
 -- Assumes nothing.
-use Prim.Native.Nat.{ℕ, _+_}
-use mathlib.Core.List.{List}
+use Prim.Native.Nat.{ℕ}
+use mathlib.Core.List.{List, [], _∷_, _++_}
 use mathlib.Core.Option.{Option, none, some}
-use lib.ListN.{getD, set}
-use Rattle.load_file.specs.declared.Cell.{Cell}
-use Rattle.load_file.specs.Cells.{packed, unpacked}
-use Rattle.machine.specs.Pointers.{Operand, operand}
+use Rattle.cell.specs.declared.Cell.{Cell}
+use Rattle.cell.specs.Cells.{packed, cellAt, store}
+use Rattle.machine.specs.Pointers.{Site, Operand, operand}
 use Rattle.machine.specs.Execution.{Effect, Scene, effectOf}
 
 -- the instruction at PC
 abbrev pub fetched : List ℕ → ℕ → Cell
-fetched core pc = unpacked (getD core pc 0)
+fetched core pc = cellAt core pc
 
 -- the A operand comes first
-abbrev pub aOperand : ℕ → List ℕ → ℕ → Operand
-aOperand size core pc = operand size core pc (fetched core pc .«a_mode») (fetched core pc .a .0)
+abbrev pub aOperand : Site → List ℕ → Operand
+aOperand s core = operand s core (fetched core (s .pc) .«a_mode») (fetched core (s .pc) .a .0)
 
 -- the B operand follows, its number read again from the core
-abbrev pub bOperand : ℕ → List ℕ → ℕ → Operand
-bOperand size core pc =
-    let a = aOperand size core pc in
-    operand size (a .core) pc (fetched core pc .«b_mode») (fetched (a .core) pc .b .0)
+abbrev pub bOperand : Site → List ℕ → Operand
+bOperand s core =
+    let a = aOperand s core in
+    operand s (a .core) (fetched core (s .pc) .«b_mode») (fetched (a .core) (s .pc) .b .0)
 
-abbrev pub sceneAt : ℕ → List ℕ → ℕ → Scene
-sceneAt size core pc =
-    let a = aOperand size core pc in
-    let b = bOperand size core pc in
+-- jumps and comparisons look where the pointers read, stores go where the B pointer writes
+abbrev pub sceneAt : Site → List ℕ → Scene
+sceneAt s core =
+    let a = aOperand s core in
+    let b = bOperand s core in
     record {
-      size = size;
-      modifier = fetched core pc .modifier;
-      pc = pc;
-      jump = a .pointer;
+      size = s .rules .size;
+      modifier = fetched core (s .pc) .modifier;
+      pc = s .pc;
+      jump = a .read;
       ra = a .register;
       rb = b .register;
-      live = unpacked (getD (b .core) (b .pointer) 0);
+      live = cellAt (b .core) (b .read);
+      target = cellAt (b .core) (b .write);
     }
 
-abbrev pub effectAt : ℕ → List ℕ → ℕ → Effect
-effectAt size core pc = effectOf (fetched core pc .opcode) (sceneAt size core pc)
+abbrev pub effectAt : Site → List ℕ → Effect
+effectAt s core = effectOf (fetched core (s .pc) .opcode) (sceneAt s core)
 
 -- the target cell, stored; one write if any target field is stored
 abbrev pub storeTo : Option Cell → List ℕ → ℕ → List ℕ
 storeTo none core place = core
-storeTo (some c) core place = set core place (packed c)
+storeTo (some c) core place = store core place (packed c)
 
-abbrev pub storeWrites : Option Cell → ℕ
-storeWrites none = 0
-storeWrites (some c) = 1
+abbrev pub storedAt : Option Cell → ℕ → List ℕ
+storedAt none place = []
+storedAt (some c) place = place ∷ []
 
-abbrev pub coreAt : ℕ → List ℕ → ℕ → List ℕ
-coreAt size core pc =
-    let b = bOperand size core pc in
-    storeTo (effectAt size core pc .cell) (b .core) (b .pointer)
+abbrev pub coreAt : Site → List ℕ → List ℕ
+coreAt s core =
+    let b = bOperand s core in
+    storeTo (effectAt s core .cell) (b .core) (b .write)
 
-abbrev pub writesAt : ℕ → List ℕ → ℕ → ℕ
-writesAt size core pc =
-    aOperand size core pc .writes + bOperand size core pc .writes + storeWrites (effectAt size core pc .cell)
+-- the words of the other cells read
+abbrev pub seenAt : Site → List ℕ → List ℕ
+seenAt s core = aOperand s core .seen ++ bOperand s core .seen
+
+-- the places written: by the A operand, by the B operand, by the store
+abbrev pub writtenAt : Site → List ℕ → List ℕ
+writtenAt s core =
+    let b = bOperand s core in
+    aOperand s core .written ++ (b .written ++ storedAt (effectAt s core .cell) (b .write))

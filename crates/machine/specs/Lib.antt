@@ -2,6 +2,7 @@ pub mod State
 pub mod Names
 pub mod Queue
 pub mod Soundness
+pub mod Fresh
 pub mod Load
 pub mod Pointers
 pub mod Execution

@@ -1,29 +1,29 @@
 -- One operand (01, 'Cells' for the modes, 'Pointers').
 -- Assumes nothing.
 use Prim.Native.Nat.{ℕ, _-_}
-use mathlib.Core.Bool.{Bool, _&&_}
 use mathlib.Core.List.{List, [], _∷_}
-use lib.ListN.{getD, set}
-use Rattle.load_file.specs.declared.Cell.{Cell}
-use Rattle.load_file.specs.Offset.{ahead}
-use Rattle.load_file.specs.Types.{Field, A, B}
-use Rattle.load_file.specs.Cells.{packed, unpacked, soundWord, number, withNumber}
+use lib.ListN.{getD}
+use Rattle.cell.specs.declared.Cell.{Cell}
+use Rattle.offset.specs.Offset.{ahead}
+use Rattle.types.specs.Types.{Field, A, B}
+use Rattle.cell.specs.Cells.{packed, number, withNumber, cellAt, store}
+use Rattle.machine.specs.declared.Rules.{Rules}
 
 -- where a mode points, and what it does to the number that it goes through
 pub data Reach : Type 0 where
   here there : Reach
   through : Field → Reach
 
-pub data Turn : Type 0 where
-  keeps lowers raises : Turn
+pub data Shift : Type 0 where
+  keeps lowers raises : Shift
 
 -- modes 0–7: # $ * @ { < } >. `* { }` go through the pointed cell's A number, `@ < >` through its B number
 abbrev pub reaches : List Reach
 reaches = here ∷ there ∷ through A ∷ through B ∷ through A ∷ through B ∷ through A ∷ through B ∷ []
 
 -- `{ <` decrement before use, `} >` increment after
-abbrev pub turns : List Turn
-turns = keeps ∷ keeps ∷ keeps ∷ keeps ∷ lowers ∷ lowers ∷ raises ∷ raises ∷ []
+abbrev pub shifts : List Shift
+shifts = keeps ∷ keeps ∷ keeps ∷ keeps ∷ lowers ∷ lowers ∷ raises ∷ raises ∷ []
 
 -- the field that a mode goes through; `#` and `$` go through none, and look at either
 abbrev pub fieldOf : Reach → Field
@@ -39,7 +39,7 @@ abbrev pub more : ℕ → ℕ → ℕ
 more size x = ahead size x 1
 
 -- the number found there (minus 1 for `{ <`)
-abbrev pub used : Turn → ℕ → ℕ → ℕ
+abbrev pub used : Shift → ℕ → ℕ → ℕ
 used keeps size found = found
 used lowers size found = less size found
 used raises size found = found
@@ -52,48 +52,59 @@ pointerOf (through f) size pc location n = ahead size location n
 
 -- the core with another number in a field of the cell at a place
 abbrev pub changed : List ℕ → ℕ → Field → ℕ → List ℕ
-changed core place f n = set core place (packed (withNumber f n (unpacked (getD core place 0))))
+changed core place f n = store core place (packed (withNumber f n (cellAt core place)))
 
 -- the decrement
-abbrev pub before : Turn → ℕ → List ℕ → ℕ → Field → ℕ → List ℕ
+abbrev pub before : Shift → ℕ → List ℕ → ℕ → Field → ℕ → List ℕ
 before keeps size core location f found = core
 before lowers size core location f found = changed core location f (less size found)
 before raises size core location f found = core
 
 -- the increment
-abbrev pub after : Turn → ℕ → List ℕ → ℕ → Field → ℕ → List ℕ
+abbrev pub after : Shift → ℕ → List ℕ → ℕ → Field → ℕ → List ℕ
 after keeps size core location f found = core
 after lowers size core location f found = core
 after raises size core location f found = changed core location f (more size found)
 
--- writes of a step: one for each operand mode among `{ < } >`
-abbrev pub turnWrites : Turn → ℕ
-turnWrites keeps = 0
-turnWrites lowers = 1
-turnWrites raises = 1
+-- the places written: one for each operand mode among `{ < } >`
+abbrev pub shifted : Shift → ℕ → List ℕ
+shifted keeps location = []
+shifted lowers location = location ∷ []
+shifted raises location = location ∷ []
 
--- the core afterwards, the pointer, the register, whether the cells at location and pointer are sound, and the writes
+-- where an instruction is executed: the rules and PC
+pub record Site : Type 0 where
+  pub rules : Rules
+  pub pc : ℕ
+
+abbrev pub siteAt : Rules → ℕ → Site
+siteAt rules pc = record { rules = rules; pc = pc }
+
+-- the core afterwards; the pointer, for reading and for writing; the register; the words of the cells read; the places written
 pub record Operand : Type 0 where
   pub core : List ℕ
-  pub pointer : ℕ
+  pub read : ℕ
+  pub write : ℕ
   pub register : Cell
-  pub sound : Bool
-  pub writes : ℕ
+  pub seen : List ℕ
+  pub written : List ℕ
 
 -- location: PC + number. Pointer. Then the decrement; the register is a copy of the cell at the pointer; then the increment
-unfoldable pub operand : ℕ → List ℕ → ℕ → ℕ → ℕ → Operand
-operand size core pc mode n =
+unfoldable pub operand : Site → List ℕ → ℕ → ℕ → Operand
+operand s core mode n =
+    let size = s .rules .size in
     let reach = getD reaches mode here in
-    let turn = getD turns mode keeps in
+    let shift = getD shifts mode keeps in
     let f = fieldOf reach in
-    let location = ahead size pc n in
-    let found = number f (unpacked (getD core location 0)) in
-    let pointer = pointerOf reach size pc location (used turn size found) in
-    let lowered = before turn size core location f found in
+    let location = ahead size (s .pc) n in
+    let found = number f (cellAt core location) in
+    let pointer = pointerOf reach size (s .pc) location (used shift size found) in
+    let lowered = before shift size core location f found in
     record {
-      core = after turn size lowered location f found;
-      pointer = pointer;
-      register = unpacked (getD lowered pointer 0);
-      sound = soundWord size (getD core location 0) && soundWord size (getD lowered pointer 0);
-      writes = turnWrites turn;
+      core = after shift size lowered location f found;
+      read = pointer;
+      write = pointer;
+      register = cellAt lowered pointer;
+      seen = getD core location 0 ∷ getD lowered pointer 0 ∷ [];
+      written = shifted shift location;
     }

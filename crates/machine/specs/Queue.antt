@@ -6,10 +6,11 @@ use mathlib.Core.List.{List, [], _∷_}
 use lib.Dec.{leb}
 use lib.ListN.{length, getD, set}
 use Rattle.laws.specs.Lists.{tally, same}
-use Rattle.load_file.specs.Offset.{ahead}
+use Rattle.offset.specs.Offset.{ahead}
 use Rattle.machine.specs.declared.Entry.{Entry}
 use Rattle.machine.specs.declared.Header.{Header}
-use Rattle.machine.specs.State.{Machine}
+use Rattle.machine.specs.declared.Ring.{Ring}
+use Rattle.machine.specs.State.{Machine, under, withQueue}
 use Rattle.machine.specs.Names.{names, numbered}
 
 -- Entry, 64 bits: place in bits 0–15, thread number 16–47, name index 48–51, else zero
@@ -29,61 +30,47 @@ slots q i (suc n) = getD q i 0 ∷ slots q (ahead (length q) i 1) n
 
 -- queue entries: the slots from the head on, length many
 unfoldable pub entries : Machine → List ℕ
-entries m = slots (m .queue) (m .header .head) (m .header .length)
+entries m = slots (m .queue) (m .header .ring .head) (m .header .ring .length)
 
 -- the name of an entry, and how many entries a name has
 abbrev pub nameOf : Machine → ℕ → List ℕ
-nameOf m w = getD (names (m .header)) (unpackedEntry w .name) []
+nameOf m w = getD (names (m .header .names)) (unpackedEntry w .name) []
 
 abbrev pub entriesOf : Machine → List ℕ → ℕ
 entriesOf m n = tally (λ w. same (nameOf m w) n) (entries m)
 
--- the process limit is the queue memory's length and covers all names together
-abbrev pub full : Machine → Bool
-full m = leb (length (m .queue)) (m .header .length)
+-- no room for an entry of the name at an index: the process limit is the queue memory's length and covers all names together
+abbrev pub full : Machine → ℕ → Bool
+full m i = leb (length (m .queue)) (m .header .ring .length)
 
 -- first in, first out
 abbrev pub front : Machine → ℕ
-front m = getD (m .queue) (m .header .head) 0
+front m = getD (m .queue) (m .header .ring .head) 0
 
--- the header with another head, length and counts
-abbrev pub requeued : Header → ℕ → ℕ → List ℕ → Header
-requeued h head length counts =
-    record {
-      size = h .size;
-      head = head;
-      length = length;
-      steps = h .steps;
-      held = h .held;
-      names = h .names;
-      lengths = h .lengths;
-      counts = counts;
-      threads = h .threads;
-    }
+-- the header with another ring and counts
+abbrev pub requeued : Header → Ring → List ℕ → Header
+requeued h ring counts =
+    record { rules = h .rules; ring = ring; steps = h .steps; names = h .names; counts = counts; threads = h .threads }
 
 -- popping lowers the count and moves the head one on, round the end; the slot left keeps its number
 unfoldable pub pop : Machine → Machine
 pop m =
     let h = m .header in
     let i = unpackedEntry (front m) .name in
-    record {
-      core = m .core;
-      queue = m .queue;
-      header = requeued h (ahead (length (m .queue)) (h .head) 1) (h .length - 1) (set (h .counts) i (getD (h .counts) i 0 - 1));
-    }
+    under
+    (requeued h (record { head = ahead (length (m .queue)) (h .ring .head) 1; length = h .ring .length - 1 })
+    (set (h .counts) i (getD (h .counts) i 0 - 1)))
+    m
 
 -- pushing raises the count and writes the slot at head + length, modulo the limit
 unfoldable pub push : Entry → Machine → Machine
 push e m =
     let h = m .header in
     let i = e .name in
-    record {
-      core = m .core;
-      queue = set (m .queue) (ahead (length (m .queue)) (h .head) (h .length)) (packedEntry e);
-      header = requeued h (h .head) (h .length + 1) (set (h .counts) i (getD (h .counts) i 0 + 1));
-    }
+    withQueue (set (m .queue) (ahead (length (m .queue)) (h .ring .head) (h .ring .length)) (packedEntry e))
+    (requeued h (record { head = h .ring .head; length = h .ring .length + 1 }) (set (h .counts) i (getD (h .counts) i 0 + 1)))
+    m
 
 -- a process started: an entry pushed with the name's next thread number, which rises by one
 unfoldable pub started : ℕ → ℕ → Machine → Machine
-started place i m =
-    push (entry place (getD (m .header .threads) i 0) i) (record { core = m .core; queue = m .queue; header = numbered i (m .header) })
+started place i m = push (entry place (getD (m .header .threads) i 0) i) (under (numbered i (m .header)) m)

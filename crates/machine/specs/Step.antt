@@ -1,22 +1,22 @@
 -- One step (01, 'One step').
 -- Assumes nothing.
 use Prim.Native.Nat.{ℕ, _+_}
-use mathlib.Core.Bool.{Bool, cond, not, _&&_, _||_}
+use mathlib.Core.Bool.{Bool, cond, not, _||_}
 use mathlib.Core.List.{List, [], _∷_}
 use lib.Dec.{eqb}
-use lib.ListN.{getD}
+use lib.ListN.{length, getD}
 use Rattle.answer.specs.Numbers.{Told, gives}
-use Rattle.laws.specs.Lists.{among}
-use Rattle.load_file.specs.declared.Cell.{Cell}
-use Rattle.load_file.specs.Cells.{soundWord}
-use Rattle.load_file.specs.Opcode.{LDP, STP}
+use Rattle.laws.specs.Lists.{among, every}
+use Rattle.cell.specs.declared.Cell.{Cell}
+use Rattle.cell.specs.Cells.{soundWord}
+use Rattle.types.specs.Opcode.{LDP, STP}
 use Rattle.machine.specs.declared.Entry.{Entry}
-use Rattle.machine.specs.State.{Machine, Outcome, Check, check, first, settle}
+use Rattle.machine.specs.State.{Machine, under, withCore, Outcome, Check, check, first, settle}
 use Rattle.machine.specs.Queue.{entry, unpackedEntry, front, full, pop, push, started}
-use Rattle.machine.specs.Soundness.{soundHeader, soundEntry}
-use Rattle.machine.specs.Pointers.{Operand}
+use Rattle.machine.specs.Soundness.{soundHeader, soundFront}
+use Rattle.machine.specs.Pointers.{Site, siteAt, Operand}
 use Rattle.machine.specs.Execution.{Ending, dat, divisor, Next, ends, goes, splits, Effect}
-use Rattle.machine.specs.Instruction.{fetched, aOperand, bOperand, effectAt, coreAt, writesAt}
+use Rattle.machine.specs.Instruction.{fetched, aOperand, bOperand, effectAt, coreAt, seenAt, writtenAt}
 
 -- the entry popped, its place PC, and the instruction there
 abbrev pub popped : Machine → Entry
@@ -28,41 +28,35 @@ pc m = popped m .place .0
 abbrev pub instruction : Machine → Cell
 instruction m = fetched (m .core) (pc m)
 
+abbrev pub site : Machine → Site
+site m = siteAt (m .header .rules) (pc m)
+
 -- evaluate both operands, and execute
 abbrev pub operandA : Machine → Operand
-operandA m = aOperand (m .header .size) (m .core) (pc m)
+operandA m = aOperand (site m) (m .core)
 
 abbrev pub operandB : Machine → Operand
-operandB m = bOperand (m .header .size) (m .core) (pc m)
+operandB m = bOperand (site m) (m .core)
 
 unfoldable pub effect : Machine → Effect
-effect m = effectAt (m .header .size) (m .core) (pc m)
+effect m = effectAt (site m) (m .core)
 
 unfoldable pub coreAfter : Machine → List ℕ
-coreAfter m = coreAt (m .header .size) (m .core) (pc m)
+coreAfter m = coreAt (site m) (m .core)
 
-unfoldable pub stepWrites : Machine → ℕ
-stepWrites m = writesAt (m .header .size) (m .core) (pc m)
+-- the places written; writes are their number
+unfoldable pub stepWritten : Machine → List ℕ
+stepWritten m = writtenAt (site m) (m .core)
+
+abbrev pub stepWrites : Machine → ℕ
+stepWrites m = length (stepWritten m)
 
 -- count one step
 unfoldable pub counted : List ℕ → Machine → Machine
 counted core m =
     let h = m .header in
-    record {
-      core = core;
-      queue = m .queue;
-      header = record {
-        size = h .size;
-        head = h .head;
-        length = h .length;
-        held = h .held;
-        names = h .names;
-        lengths = h .lengths;
-        counts = h .counts;
-        threads = h .threads;
-        steps = h .steps + 1;
-      };
-    }
+    withCore core
+    (under (record { rules = h .rules; ring = h .ring; steps = h .steps + 1; names = h .names; counts = h .counts; threads = h .threads }) m)
 
 pub record Queued : Type 0 where
   pub machine : Machine
@@ -75,7 +69,7 @@ queued (ends x) e m = record { machine = m; pushes = 0 }
 queued (goes p) e m = record { machine = push (entry p (e .thread) (e .name)) m; pushes = 1 }
 queued (splits p c) e m =
     let n = push (entry p (e .thread) (e .name)) m in
-    cond (full n) (record { machine = n; pushes = 1 }) (record { machine = started c (e .name) n; pushes = 2 })
+    cond (full n (e .name)) (record { machine = n; pushes = 1 }) (record { machine = started c (e .name) n; pushes = 2 })
 
 -- 11, with place: DAT ended the name's last entry; 12: a zero divisor did
 abbrev pub endTold : Ending → ℕ → Told
@@ -110,12 +104,12 @@ abbrev pub stepChecks : Machine → List Check
 stepChecks m =
     let h = m .header in
     check (not (soundHeader m)) 9
-    ∷ check (eqb (h .length) 0) 7
-    ∷ check (not (soundEntry h (front m))) 9
+    ∷ check (eqb (h .ring .length) 0) 7
+    ∷ check (not (soundFront m)) 9
     ∷ check (eqb (h .steps) 4294967295 || eqb (getD (h .threads) (popped m .name) 0) 4294967295) 8
-    ∷ check (not (soundWord (h .size) (getD (m .core) (pc m) 0))) 9
+    ∷ check (not (soundWord (h .rules .size) (getD (m .core) (pc m) 0))) 9
     ∷ check (among (LDP ∷ STP ∷ []) (instruction m .opcode)) 10
-    ∷ check (not (operandA m .sound && operandB m .sound)) 9
+    ∷ check (not (every (soundWord (h .rules .size)) (seenAt (site m) (m .core)))) 9
     ∷ []
 
 unfoldable pub step : Machine → Outcome

@@ -1,17 +1,38 @@
-// The record that 01's machine keeps beside the core's and the queue's memory. Its definitions are in specs/; there is no code here.
+// The record that 01's machine keeps beside the core's and the queue's memory. Its definitions are in specs/; there are no functions here.
 
-use load_file::offset::Absolute;
+use answer::Answer;
+use offset::Absolute;
 
-// 16 name slots: 32 bytes, a length, a count and a next thread number each. Laid out as C lays it out, since programs in C and Rust hold one.
+pub mod limits;
+
+// What fresh fixes and no call changes: the core's size.
 #[repr(C)]
-pub struct Header {
+pub struct Rules {
     pub size: u32,
+}
+
+// Where the ring of queued processes begins, and how many entries it has.
+#[repr(C)]
+pub struct Ring {
     pub head: u32,
     pub length: u32,
-    pub steps: u32,
+}
+
+// The names: how many are held, and 16 slots of 32 bytes and a length each.
+#[repr(C)]
+pub struct Roster {
     pub held: u32,
-    pub names: [u8; 512],
+    pub bytes: [u8; 512],
     pub lengths: [u8; 16],
+}
+
+// By what changes together; each of the 16 name slots has a count and a next thread number too. Laid out as C lays it out, since programs in C and Rust hold one.
+#[repr(C)]
+pub struct Header {
+    pub rules: Rules,
+    pub ring: Ring,
+    pub steps: u32,
+    pub names: Roster,
     pub counts: [u32; 16],
     pub threads: [u32; 16],
 }
@@ -27,4 +48,12 @@ pub struct Entry {
 pub enum Ceiling {
     Unsaid,
     Steps(u64),
+}
+
+// What fresh, load, step and run give back: an answer, its writes and steps, and the header.
+pub struct Outcome {
+    pub answer: Answer,
+    pub writes: u64,
+    pub steps: u64,
+    pub header: Header,
 }

@@ -4,30 +4,30 @@ use crate::words::same;
 use crate::words::signed;
 use crate::words::unsigned;
 
-pub const SIZE: u8 = 0;
+pub(crate) const SIZE: u8 = 0;
 
-pub const WARRIOR: u8 = 1;
+pub(crate) const WARRIOR: u8 = 1;
 
-pub const NAME: u8 = 2;
+pub(crate) const NAME: u8 = 2;
 
-pub const ORIGIN: u8 = 3;
+pub(crate) const ORIGIN: u8 = 3;
 
-pub const PLACE: u8 = 4;
+pub(crate) const PLACE: u8 = 4;
 
-pub const OPCODE: u8 = 5;
+pub(crate) const OPCODE: u8 = 5;
 
-pub const MODIFIER: u8 = 6;
+pub(crate) const MODIFIER: u8 = 6;
 
-pub const A_MODE: u8 = 7;
+pub(crate) const A_MODE: u8 = 7;
 
-pub const B_MODE: u8 = 8;
+pub(crate) const B_MODE: u8 = 8;
 
-pub const A_NUMBER: u8 = 9;
+pub(crate) const A_NUMBER: u8 = 9;
 
-pub const B_NUMBER: u8 = 10;
+pub(crate) const B_NUMBER: u8 = 10;
 
 // The kind of the word after one; after an instruction comes another.
-pub fn next(kind: u8) -> u8 {
+pub(crate) fn next(kind: u8) -> u8 {
     if kind >= B_NUMBER {
         return OPCODE;
     }
@@ -35,7 +35,7 @@ pub fn next(kind: u8) -> u8 {
 }
 
 // The number that a word of a kind says.
-pub fn number(kind: u8, word: &[u8]) -> Number {
+pub(crate) fn number(kind: u8, word: &[u8]) -> Number {
     match kind {
         OPCODE..=B_MODE => unsigned(word, 255),
         A_NUMBER | B_NUMBER => signed(word),
@@ -50,7 +50,7 @@ pub fn number(kind: u8, word: &[u8]) -> Number {
 }
 
 // Says on standard error which kind of word is wanted.
-pub fn tell(kind: u8) {
+pub(crate) fn tell(kind: u8) {
     match kind {
         SIZE => io::write_all(2, b"the core size M, a number"),
         WARRIOR => io::write_all(2, b"the word warrior"),

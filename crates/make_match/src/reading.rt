@@ -20,7 +20,7 @@ use std::num::wrapping_add_u64;
 use std::num::wrapping_add_usize;
 
 // What the words read so far say, and what was made of them.
-pub struct Reading {
+pub(crate) struct Reading {
     pub words: u64, // how many words were read
     pub wanted: u8, // the kind of the next word
     pub wrong: bool, // whether the last word is not of that kind
@@ -56,7 +56,7 @@ fn unread() -> Reading {
 }
 
 // Whether a word was wrong or a warrior was refused.
-pub fn failed(r: Reading) -> bool {
+pub(crate) fn failed(r: Reading) -> bool {
     if r.wrong {
         return true;
     }
@@ -163,7 +163,7 @@ fn after(mut r: Reading, w: Written) -> Reading {
 }
 
 // Writes the warrior that was read, to the two buffers in turn.
-pub fn write_warrior(
+pub(crate) fn write_warrior(
     text: &[u8],
     r: Reading,
     body: &[u8],
@@ -212,7 +212,7 @@ fn take(
 }
 
 // Takes the words up to the text's end, or to what failed.
-pub fn take_words(text: &[u8], body: &mut [u8], odd: &mut [u8], even: &mut [u8]) -> Reading {
+pub(crate) fn take_words(text: &[u8], body: &mut [u8], odd: &mut [u8], even: &mut [u8]) -> Reading {
     let mut r = unread();
     let mut at: usize = 0;
     while at < text.len() {

@@ -7,7 +7,7 @@ use std::num::wrapping_sub_u32;
 const TOO_LARGE: u64 = 99999999999;
 
 // The 32 bits of the number that a word says.
-pub enum Number {
+pub(crate) enum Number {
     Bits(u32),
     Wrong,
 }
@@ -30,7 +30,7 @@ fn in_comment(before: bool, b: u8) -> bool {
 }
 
 // Where the next word begins, from a position on; the text's length where there is none.
-pub fn word_start(text: &[u8], at: usize) -> usize
+pub(crate) fn word_start(text: &[u8], at: usize) -> usize
     requires { ⌜ at ≤ length (now text) ⌝ }
     ensures { λ r. ⌜ (at ≤ r) × (r ≤ length (now (text .entry))) ⌝ }
 {
@@ -50,7 +50,7 @@ pub fn word_start(text: &[u8], at: usize) -> usize
 }
 
 // Where the word that begins at a position ends.
-pub fn word_end(text: &[u8], at: usize) -> usize
+pub(crate) fn word_end(text: &[u8], at: usize) -> usize
     requires { ⌜ at < length (now text) ⌝ }
     ensures { λ r. ⌜ (at < r) × (r ≤ length (now (text .entry))) ⌝ }
 {
@@ -69,7 +69,7 @@ pub fn word_end(text: &[u8], at: usize) -> usize
 }
 
 // The part from a position up to another; empty where there is none.
-pub fn part(bytes: &[u8], from: usize, to: usize) -> &[u8] {
+pub(crate) fn part(bytes: &[u8], from: usize, to: usize) -> &[u8] {
     if to > bytes.len() {
         return &bytes[..0];
     }
@@ -80,7 +80,7 @@ pub fn part(bytes: &[u8], from: usize, to: usize) -> &[u8] {
 }
 
 // Whether two words are the same.
-pub fn same<'a>(a: &'a [u8], b: &'a [u8]) -> bool {
+pub(crate) fn same<'a>(a: &'a [u8], b: &'a [u8]) -> bool {
     if a.len() != b.len() {
         return false;
     }
@@ -123,7 +123,7 @@ fn from_digits(word: &[u8]) -> u64 {
 }
 
 // A number from 0 to `most`.
-pub fn unsigned(word: &[u8], most: u32) -> Number {
+pub(crate) fn unsigned(word: &[u8], most: u32) -> Number {
     let n = from_digits(word);
     if n > most as u64 {
         return Number::Wrong;
@@ -132,7 +132,7 @@ pub fn unsigned(word: &[u8], most: u32) -> Number {
 }
 
 // A number from -2,147,483,648 to 2,147,483,647.
-pub fn signed(word: &[u8]) -> Number {
+pub(crate) fn signed(word: &[u8]) -> Number {
     if !same(part(word, 0, 1), b"-") {
         return unsigned(word, 2147483647);
     }

@@ -1,9 +1,2 @@
-pub mod Parts
-pub mod Numbers
-pub mod Chains
-pub mod Lines
-pub mod Whole
-pub mod Damaged
-pub mod Format
 pub mod Warriors
 pub mod Values

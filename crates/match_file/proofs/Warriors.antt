@@ -6,16 +6,16 @@ use Prim.Native.Nat.{ℕ, zero, suc, _+_, _*_, _<_}
 use native.Mathlib.Omega.{arith}
 use lib.ListN.{length, getD, drop, take-append-drop}
 use lib.Seq.{drop-length, drop-drop}
-use Rattle.program.specs.Bytes.{part}
+use Rattle.encoding.specs.Bytes.{part}
 use Rattle.program.specs.Program.{instructions}
-use Rattle.match_file.specs.declared.fault.Fault.the-variants.{Nowhere}
-use Rattle.match_file.specs.Format.{number, Warrior, bodies}
-use Rattle.match_file.specs.Faults.{linesFault}
+use Rattle.match_format.specs.declared.Fault.the-variants.{Nowhere}
+use Rattle.match_format.specs.Format.{number, Warrior, bodies}
+use Rattle.match_format.specs.Faults.{linesFault}
 use Rattle.match_file.specs.Reading.{warriorAt, warriorsAt}
-use Rattle.match_file.proofs.Parts.{length-part}
-use Rattle.match_file.proofs.Format.{Short}
-use Rattle.match_file.proofs.Lines.{lines-none}
-use Rattle.match_file.proofs.Whole.{end-ok, first-line, later-lines, LineAt}
+use Rattle.match_format.proofs.Parts.{length-part}
+use Rattle.match_format.proofs.Format.{Short}
+use Rattle.match_format.proofs.Lines.{lines-none}
+use Rattle.match_format.proofs.Whole.{end-ok, first-line, later-lines, LineAt}
 
 module _ (f : List ℕ) where
   pub length-warriors : (p n : ℕ) → length (warriorsAt f p n) ≡ n

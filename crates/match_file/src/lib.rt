@@ -1,17 +1,16 @@
 // Reads match files (01, 'Match file').
 ghost use mathlib.Core.Path.{_≡_};
 ghost use Rattle.answer.specs.Numbers.{told};
-ghost use Rattle.match_file.specs.Faults.{fault, faultAt};
-ghost use Rattle.match_file.specs.Reading.{toldBy, zeroed, emptied, warriorsIn, sizeIn, lineAt, nameStart, nameLength, bodyStart, countOf, warriorOf};
+ghost use Rattle.match_format.specs.Faults.{fault, faultAt};
+ghost use Rattle.match_file.specs.Reading.{toldBy, zeroed, emptied, cleared, warriorsIn, sizeIn, lineIn, warriorOf};
 use answer::Answer;
-use fault::Fault;
-use fault::first_fault;
-use fault::first_fault_at;
-use field::number16;
-use field::number32;
-
-mod fault;
-mod field;
+use encoding::byte;
+use encoding::number16_at;
+use encoding::number32_at;
+use encoding::part;
+use match_format::Fault;
+use match_format::first_fault;
+use match_format::first_fault_at;
 
 // How many warriors a file has, and M.
 pub struct Contents {
@@ -20,15 +19,20 @@ pub struct Contents {
     pub size: u32,
 }
 
-// What the contents say of a warrior: where in the file its name begins and how long it is, where its body begins, its instruction count, origin and place.
+// What the line of a warrior says: where in the file its name begins and how long it is, where its body begins, its instruction count, origin and place.
 pub struct Line {
-    pub answer: Answer,
     pub name_start: usize,
     pub name_length: usize,
     pub body_start: usize,
     pub count: u16,
     pub origin: u16,
     pub place: u32,
+}
+
+// An answer, and the line, all zero where it is refused.
+pub struct LineRead {
+    pub answer: Answer,
+    pub line: Line,
 }
 
 // Reads how many warriors a file has, and M.
@@ -46,43 +50,46 @@ pub fn read(file: &[u8]) -> Contents
         Fault::Nowhere => Contents {
             answer: Answer::Done,
             warriors: file[0] as usize,
-            size: number16(file, 1) as u32,
+            size: number16_at(file, 1) as u32,
         },
     }
 }
 
+// What the line of a warrior says, of any bytes: a file is checked once, by reading it.
+pub fn line_in(file: &[u8], number: u8) -> Line
+    ensures { λ r. ⌜ r ≡ lineIn (now (file .entry)) number ⌝ }
+{
+    let at = 4 + 43 * number as usize;
+    Line {
+        name_start: at + 1,
+        name_length: byte(file, at) as usize,
+        body_start: number32_at(file, at + 33) as usize,
+        count: number16_at(file, at + 37),
+        origin: number16_at(file, at + 39),
+        place: number16_at(file, at + 41) as u32,
+    }
+}
+
 // Reads the line of a warrior.
-pub fn read_line(file: &[u8], number: usize) -> Line
-    ensures { λ r. ⌜ (told (r .answer) ≡ toldBy (faultAt (now (file .entry)) number))
-        × (r .count ≡ zeroed (faultAt (now (file .entry)) number) (countOf (now (file .entry)) number))
-        × (r .origin ≡ zeroed (faultAt (now (file .entry)) number) (warriorOf (now (file .entry)) number .origin))
-        × (r .place ≡ zeroed (faultAt (now (file .entry)) number) (warriorOf (now (file .entry)) number .place))
-        × (r .«name_start» ≡ zeroed (faultAt (now (file .entry)) number) (nameStart (lineAt number)))
-        × (r .«name_length» ≡ zeroed (faultAt (now (file .entry)) number) (nameLength (now (file .entry)) (lineAt number)))
-        × (r .«body_start» ≡ zeroed (faultAt (now (file .entry)) number) (bodyStart (now (file .entry)) (lineAt number))) ⌝ }
+pub fn read_line(file: &[u8], number: usize) -> LineRead
+    ensures { λ r. ⌜ (told (r .answer) ≡ toldBy (faultAt (now (file .entry)) number)) × (r .line ≡ cleared (faultAt (now (file .entry)) number) (lineIn (now (file .entry)) number)) ⌝ }
 {
     match first_fault_at(file, number) {
-        Fault::At(p) => Line {
+        Fault::At(p) => LineRead {
             answer: Answer::Malformed(p),
-            name_start: 0,
-            name_length: 0,
-            body_start: 0,
-            count: 0,
-            origin: 0,
-            place: 0,
+            line: Line {
+                name_start: 0,
+                name_length: 0,
+                body_start: 0,
+                count: 0,
+                origin: 0,
+                place: 0,
+            },
         },
-        Fault::Nowhere => {
-            let at = 4 + 43 * number;
-            Line {
-                answer: Answer::Done,
-                name_start: at + 1,
-                name_length: file[at] as usize,
-                body_start: number32(file, at + 33) as usize,
-                count: number16(file, at + 37),
-                origin: number16(file, at + 39),
-                place: number16(file, at + 41) as u32,
-            }
-        }
+        Fault::Nowhere => LineRead {
+            answer: Answer::Done,
+            line: line_in(file, number as u8),
+        },
     }
 }
 
@@ -93,10 +100,8 @@ pub fn name(file: &[u8], number: usize) -> &[u8]
     match first_fault_at(file, number) {
         Fault::At(_) => &file[..0],
         Fault::Nowhere => {
-            let at = 4 + 43 * number;
-            let first = at + 1;
-            let end = first + file[at] as usize;
-            &file[first..end]
+            let l = line_in(file, number as u8);
+            part(file, l.name_start, l.name_length)
         }
     }
 }
@@ -108,10 +113,8 @@ pub fn body(file: &[u8], number: usize) -> &[u8]
     match first_fault_at(file, number) {
         Fault::At(_) => &file[..0],
         Fault::Nowhere => {
-            let at = 4 + 43 * number;
-            let start = number32(file, at + 33) as usize;
-            let end = start + 12 * number16(file, at + 37) as usize;
-            &file[start..end]
+            let l = line_in(file, number as u8);
+            part(file, l.body_start, 12 * l.count as usize)
         }
     }
 }

@@ -8,12 +8,12 @@ use lib.ListN.{length}
 use Rattle.answer.specs.declared.Answer.{Answer}
 use Rattle.answer.specs.Numbers.{Told, told}
 use Rattle.machine.specs.State.{first}
-use Rattle.match_file.specs.declared.fault.Fault.{Fault}
-use Rattle.match_file.specs.declared.fault.Fault.the-variants.{Nowhere, At}
-use Rattle.match_file.specs.Format.{Warrior, file}
-use Rattle.match_file.specs.Faults.{linesFault, fault}
+use Rattle.match_format.specs.declared.Fault.{Fault}
+use Rattle.match_format.specs.declared.Fault.the-variants.{Nowhere, At}
+use Rattle.match_format.specs.Format.{Warrior, file}
+use Rattle.match_format.specs.Faults.{linesFault, fault}
 use Rattle.match_file.specs.Reading.{toldBy, zeroed, warriorsIn, sizeIn, warriorsAt, warriorsOf}
-use Rattle.match_file.proofs.Whole.{head-ok}
+use Rattle.match_format.proofs.Whole.{head-ok}
 use Rattle.match_file.proofs.Values.{warrior-reads}
 use Rattle.match_write.specs.Writing.{Given, given, settle, malformed, checks, write, writeAdded, Earlier}
 

@@ -13,13 +13,13 @@ use Rattle.answer.specs.declared.Answer.{Answer}
 use Rattle.answer.specs.declared.Answer.the-variants.{Done, InvalidCoreSize, WarriorTooLong, InvalidCode, InvalidNameOrPlace, NoRoom}
 use Rattle.laws.proofs.Tests.{both, and-false}
 use Rattle.program.specs.Program.{instructions, lowestFault}
-use Rattle.program.specs.Metadata.{validName}
-use Rattle.program.proofs.Names.{valid-name}
+use Rattle.metadata.specs.Metadata.{validName}
+use Rattle.metadata.proofs.Names.{valid-name}
 use Rattle.machine.specs.State.{Verdict, accepted, first}
 use Rattle.machine.specs.Soundness.{validSize}
-use Rattle.match_file.specs.Format.{Warrior, file}
+use Rattle.match_format.specs.Format.{Warrior, file}
 use Rattle.match_file.specs.Reading.{warriorsAt}
-use Rattle.match_file.proofs.Format.{length-more}
+use Rattle.match_format.proofs.Format.{length-more}
 use Rattle.match_file.proofs.Warriors.{length-warriors, bodies-are, short-names}
 use Rattle.match_write.specs.Writing.{Given, given, settle, checks, write, Earlier}
 use Rattle.laws.proofs.Stores.{stored}

@@ -9,18 +9,17 @@ use native.Mathlib.Omega.{arith}
 use lib.ListN.{length, getD, take, drop, set, replicate, length-append, length-replicate, length-drop}
 use lib.Seq.{sets}
 use Rattle.laws.proofs.Lists.{fall, to-end}
-use Rattle.program.specs.Bytes.{spelled}
+use Rattle.encoding.specs.Bytes.{spelled}
 use Rattle.program.specs.Program.{instructions}
-use Rattle.match_file.specs.declared.fault.Fault.the-variants.{Nowhere}
-use Rattle.match_file.specs.Format.{Warrior, line, lines, bodies, file}
-use Rattle.match_file.specs.Faults.{faultAt}
-use Rattle.match_file.specs.Reading.{zeroed, emptied, countOf, warriorAt, warriorOf, warriorsAt}
-use Rattle.match_file.proofs.Parts.{length-part}
-use Rattle.match_file.proofs.Whole.{LineAt, warrior-ok}
-use Rattle.match_file.proofs.Format.{Short, lineOf, length-line, length-lines, file-more}
+use Rattle.match_format.specs.declared.Fault.the-variants.{Nowhere}
+use Rattle.match_format.specs.Format.{Warrior, line, lines, bodies, file}
+use Rattle.match_format.specs.Faults.{faultAt}
+use Rattle.match_file.specs.Reading.{countOf, warriorAt, warriorOf, warriorsAt}
+use Rattle.match_format.proofs.Parts.{length-part}
+use Rattle.match_format.proofs.Whole.{LineAt, warrior-ok}
+use Rattle.match_format.proofs.Format.{Short, lineOf, length-line, length-lines, file-more}
 use Rattle.match_file.proofs.Warriors.{length-body, count-is}
 use Rattle.laws.proofs.Stores.{store-then}
-use Rattle.match_file.proofs.Values.{number-read, part-read}
 use Rattle.match_write.proofs.Stores.{spelled-zero}
 
 -- a line, stored by a store and six calls
@@ -57,15 +56,15 @@ module _ (f : List ℕ) (i : ℕ) (e : faultAt f i ≡ Nowhere) where
   short-name : length (warriorOf f i .name) ≤ 32
   short-name = rw (length-part f (4 + 43 * i + 1) (getD f (4 + 43 * i) 0) (omega (arith, its .line .fits, its .line .short))) (its .line .short)
 
-  pub its-short : {name : List ℕ} → name ≡ emptied (faultAt f i) (warriorOf f i .name) → length name ≤ 32
-  its-short d = rw (part-read e d) short-name
+  pub its-short : {name : List ℕ} → name ≡ warriorOf f i .name → length name ≤ 32
+  its-short d = rw d short-name
 
-  pub its-count : {c : ℕ} → c ≡ zeroed (faultAt f i) (countOf f i) → 12 * c ≡ length (warriorOf f i .body)
-  its-count d = rw (number-read e d) (sym (length-body f (4 + 43 * i) its))
+  pub its-count : {c : ℕ} → c ≡ countOf f i → 12 * c ≡ length (warriorOf f i .body)
+  its-count d = rw d (sym (length-body f (4 + 43 * i) its))
 
   pub lines-turn : (out out′ name : List ℕ) (to n c origin place : ℕ) → i < n
-      → name ≡ emptied (faultAt f i) (warriorOf f i .name) → c ≡ zeroed (faultAt f i) (countOf f i)
-      → origin ≡ zeroed (faultAt f i) (warriorOf f i .origin) → place ≡ zeroed (faultAt f i) (warriorOf f i .place)
+      → name ≡ warriorOf f i .name → c ≡ countOf f i
+      → origin ≡ warriorOf f i .origin → place ≡ warriorOf f i .place
       → out′ ≡ sets out (4 + 43 * i) (line name to c origin place)
       → sets out (4 + 43 * i) (lines to (warriorsAt f (4 + 43 * i) (n - i))) ≡ sets out′ (4 + 43 * (i + 1)) (lines (to + 12 * c) (warriorsAt f (4 + 43 * (i + 1)) (n - (i + 1))))
   lines-turn out out′ name to n c origin place h en ec eo ep s =
@@ -73,8 +72,8 @@ module _ (f : List ℕ) (i : ℕ) (e : faultAt f i ≡ Nowhere) where
       let w : Warrior = warriorAt f q in
       let z : q + 43 ≡ 4 + 43 * (i + 1) = omega arith in
       let k : line name to c origin place ≡ lineOf w to
-      = ap₂ (λ (x : List ℕ) (y : ℕ). line x to y origin place) (part-read e en) (number-read e ec ∙ sym (count-is f q its))
-      ∙ ap₂ (λ (x y : ℕ). line (w .name) to (instructions (w .body)) x y) (number-read e eo) (number-read e ep)
+      = ap₂ (λ (x : List ℕ) (y : ℕ). line x to y origin place) en (ec ∙ sym (count-is f q its))
+      ∙ ap₂ (λ (x y : ℕ). line (w .name) to (instructions (w .body)) x y) eo ep
       in
       ap (λ (x : ℕ). sets out q (lines to (warriorsAt f q x))) (fall n i h)
       ∙ store-then out out′ (lineOf w to) (lines (to + length (w .body)) (warriorsAt f (q + 43) (n - (i + 1)))) q (q + 43) (s ∙ ap (sets out q) k)
@@ -82,7 +81,7 @@ module _ (f : List ℕ) (i : ℕ) (e : faultAt f i ≡ Nowhere) where
       ∙ ap₂ (λ (x y : ℕ). sets out′ y (lines (to + x) (warriorsAt f y (n - (i + 1))))) (sym (its-count ec)) z
 
   -- the next body's start, and the bodies left
-  pub start-turn : (to n c : ℕ) → i < n → c ≡ zeroed (faultAt f i) (countOf f i)
+  pub start-turn : (to n c : ℕ) → i < n → c ≡ countOf f i
       → to + length (bodies (warriorsAt f (4 + 43 * i) (n - i))) ≡ to + 12 * c + length (bodies (warriorsAt f (4 + 43 * (i + 1)) (n - (i + 1))))
   start-turn to n c h ec =
       let q : ℕ = 4 + 43 * i in

@@ -7,7 +7,7 @@ use lib.ListN.{set, replicate}
 use lib.Seq.{sets}
 use Rattle.laws.proofs.Lists.{fall}
 use Rattle.laws.proofs.Stores.{next}
-use Rattle.program.specs.Bytes.{spelled}
+use Rattle.encoding.specs.Bytes.{spelled}
 
 pub put-turn : (out : List ℕ) (p k i v : ℕ) → i < k
     → sets out (p + i) (spelled (k - i) v) ≡ sets (set out (p + i) (v % 256)) (p + (i + 1)) (spelled (k - (i + 1)) (v / 256))

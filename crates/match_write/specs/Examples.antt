@@ -5,9 +5,9 @@ use Prim.Native.Nat.{ℕ}
 use mathlib.Core.List.{List, [], _∷_, _++_}
 use lib.ListN.{set, take, replicate}
 use Rattle.program.specs.Program.{lawful, lowestFault}
-use Rattle.match_file.specs.Format.{warrior, line, file}
-use Rattle.match_file.specs.Faults.{lineFault, linesFault, fault}
-use Rattle.match_file.specs.Damaged.{mov, dat, imp, unnamed, sound}
+use Rattle.match_format.specs.Format.{warrior, line, file}
+use Rattle.match_format.specs.Faults.{lineFault, linesFault, fault}
+use Rattle.match_format.specs.Damaged.{mov, dat, imp, unnamed, sound}
 use Rattle.match_write.specs.Writing.{Given, write, writeFirst, writeAdded}
 
 pub record Row : Type 0 where

@@ -9,13 +9,13 @@ use lib.ListN.{length, drop}
 use Rattle.answer.specs.declared.Answer.{Answer}
 use Rattle.answer.specs.Numbers.{Told, told, gives}
 use Rattle.program.specs.Program.{instructions, lowestFault}
-use Rattle.program.specs.Metadata.{validName}
+use Rattle.metadata.specs.Metadata.{validName}
 use Rattle.machine.specs.State.{Check, check, Verdict, accepted, refusal, first}
 use Rattle.machine.specs.Soundness.{validSize}
-use Rattle.match_file.specs.declared.fault.Fault.{Fault}
-use Rattle.match_file.specs.declared.fault.Fault.the-variants.{Nowhere, At}
-use Rattle.match_file.specs.Format.{Warrior, file}
-use Rattle.match_file.specs.Faults.{linesFault, fault, faultAt}
+use Rattle.match_format.specs.declared.Fault.{Fault}
+use Rattle.match_format.specs.declared.Fault.the-variants.{Nowhere, At}
+use Rattle.match_format.specs.Format.{Warrior, file}
+use Rattle.match_format.specs.Faults.{linesFault, fault, faultAt}
 use Rattle.match_file.specs.Reading.{sizeIn, warriorsOf}
 
 -- the answer, the length written, and the output afterwards

@@ -3,14 +3,15 @@ ghost use mathlib.Core.Path.{_≡_};
 ghost use mathlib.Core.Bool.{_&&_};
 ghost use Prim.Native.Nat.{_+_, _*_};
 ghost use lib.Dec.{leb, ltb};
-ghost use Rattle.match_file.specs.Format.{warrior};
+ghost use Rattle.match_format.specs.Format.{warrior};
 ghost use Rattle.match_file.specs.Reading.{warriorsAt};
 ghost use Rattle.match_write.specs.Writing.{given, write, writeFirst, writeAdded, Earlier};
 use answer::Answer;
+use machine::limits::LARGEST_CORE;
 use match_file::read;
+use metadata::valid_name;
 use program::len;
 use program::lowest_fault;
-use program::metadata::valid_name;
 use store::store_file;
 
 mod store;
@@ -64,7 +65,7 @@ fn write(
     if size < 1 {
         return refuse(Answer::InvalidCoreSize);
     }
-    if size > 46341 {
+    if size > LARGEST_CORE {
         return refuse(Answer::InvalidCoreSize);
     }
     let count = len(body);

@@ -4,14 +4,15 @@ ghost use mathlib.Core.List.{_++_, _∷_, []};
 ghost use Prim.Native.Nat.{_+_, _-_, _*_, _≤_};
 ghost use lib.ListN.{length};
 ghost use lib.Seq.{sets};
-ghost use Rattle.program.specs.Bytes.{spelled};
-ghost use Rattle.match_file.specs.Format.{warrior, line, lines, bodies};
-ghost use Rattle.match_file.specs.Format as format;
+ghost use Rattle.encoding.specs.Bytes.{spelled};
+ghost use Rattle.match_format.specs.Format.{warrior, line, lines, bodies};
+ghost use Rattle.match_format.specs.Format as format;
 ghost use Rattle.match_file.specs.Reading.{warriorsAt};
 ghost use Rattle.match_write.specs.Writing.{Earlier};
-use match_file::read_line;
+use encoding::part;
+use encoding::store::copy;
+use match_file::line_in;
 use program::len;
-use program::store::copy;
 
 // Stores the k bytes of a number, the lowest first.
 fn put(out: &mut [u8], at: usize, k: usize, n: u64)
@@ -62,8 +63,8 @@ fn put_lines(out: &mut [u8], file: &[u8], n: usize, start: usize, first: usize) 
     let mut to = first;
     let mut i: usize = 0;
     while i < n {
-        let old = read_line(file, i);
-        let name = match_file::name(file, i);
+        let old = line_in(file, i as u8);
+        let name = part(file, old.name_start, old.name_length);
         let count = old.count as usize;
         put_line(out, 4 + 43 * i, name, to, count, old.origin, old.place);
         to += 12 * count;
@@ -73,7 +74,7 @@ fn put_lines(out: &mut [u8], file: &[u8], n: usize, start: usize, first: usize) 
 }
 
 // Stores the file of a size, of n warriors of a file whose bodies begin at `start`, and of one more. Gives its length.
-pub fn store_file(
+pub(crate) fn store_file(
     out: &mut [u8],
     file: &[u8],
     n: usize,

@@ -11,7 +11,7 @@ use lib.ListN.{length, take, drop, set}
 use lib.Seq.{drop-drop, sets}
 use Rattle.laws.specs.Lists.{lowest}
 use Rattle.laws.proofs.Lists.{fall, done, sets-past}
-use Rattle.load_file.specs.Cells.{packed}
+use Rattle.cell.specs.Cells.{packed}
 use Rattle.program.specs.Program.{instructions, split, lawful, lowestFault, cellOf, cells}
 
 -- what is left of n instructions from the i-th on

@@ -12,11 +12,11 @@ use lib.Seq.{getD-take, length-take-le}
 use borrow.Author.Tests.{eq-eqb, ne-eqb}
 use Rattle.laws.proofs.Tests.{and-assoc, and-true}
 use Rattle.laws.proofs.Lists.{drop-first}
-use Rattle.load_file.specs.Offset.{euclid}
-use Rattle.load_file.specs.Cells.{packed, relative}
-use Rattle.load_file.specs.Defaults.{defaultOf}
-use Rattle.load_file.proofs.Words.{cell-ext}
-use Rattle.program.specs.Bytes.{part, value, signed}
+use Rattle.offset.specs.Offset.{euclid}
+use Rattle.cell.specs.Cells.{packed, relative}
+use Rattle.types.specs.Defaults.{defaultOf}
+use Rattle.cell.proofs.Words.{cell-ext}
+use Rattle.encoding.specs.Bytes.{part, value, signed}
 use Rattle.program.specs.Program.{modifierOf, lawful, cellOf}
 
 -- the first of a part

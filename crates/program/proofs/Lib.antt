@@ -1,5 +1,3 @@
-pub mod Numbers
 pub mod Front
 pub mod Bodies
-pub mod Names
 pub mod Program

@@ -13,12 +13,12 @@ use borrow.Author.Tests.{eqb-true, leb-true, ltb-false, not-false}
 use Rattle.laws.proofs.Tests.{holds}
 use Rattle.laws.proofs.Every.{Every}
 use Rattle.laws.proofs.Lowest.{lowest-none}
-use Rattle.load_file.specs.Cells.{packed, soundWord}
-use Rattle.load_file.specs.Opcode.{STP}
-use Rattle.load_file.specs.Modifier.{I}
-use Rattle.load_file.specs.Mode.{PostIncIndirectB}
-use Rattle.load_file.proofs.Offsets.{euclid-lt}
-use Rattle.load_file.proofs.Soundness.{Sound, fields-sound}
+use Rattle.cell.specs.Cells.{packed, soundWord}
+use Rattle.types.specs.Opcode.{STP}
+use Rattle.types.specs.Modifier.{I}
+use Rattle.types.specs.Mode.{PostIncIndirectB}
+use Rattle.offset.proofs.Offsets.{euclid-lt}
+use Rattle.cell.proofs.Soundness.{Sound, fields-sound}
 use Rattle.program.specs.Program.{instructions, split, opcodeOf, aModeOf, bModeOf, modifierOf, lawful, lowestFault, cellOf, cells}
 
 pub length-split : (n : ℕ) (body : List ℕ) → length (split n body) ≡ n

@@ -3,20 +3,20 @@ ghost use mathlib.Core.Path.{_≡_};
 ghost use Prim.Native.Nat.{_≤_};
 ghost use lib.ListN.{length, take};
 ghost use lib.Seq.{sets};
-ghost use Rattle.load_file.specs.Cells.{packed};
-ghost use Rattle.load_file.specs.Defaults.{defaultModifiers};
+ghost use Rattle.cell.specs.Cells.{packed};
+ghost use Rattle.types.specs.Defaults.{defaultModifiers};
 ghost use Rattle.program.specs.Program.{instructions, modifierOf, lawful, lowestFault, cellOf, cells};
-use bytes::number32;
-use bytes::signed;
-use load_file::Cell;
-use load_file::offset::reduce;
-use load_file::pack;
-use load_file::types::default_in;
-use load_file::types::default_modifiers;
-
-pub mod bytes;
-pub mod metadata;
-pub mod store;
+use cell::Cell;
+use cell::pack;
+use encoding::number32;
+use encoding::signed;
+use offset::reduce;
+use types::default_in;
+use types::default_modifiers;
+use types::mode::POST_INC_INDIRECT_B;
+use types::modifier::I;
+use types::modifier::UNNAMED;
+use types::opcode::STP;
 
 // How many instructions a body has; a last one cut short counts.
 pub fn len(body: &[u8]) -> usize
@@ -32,7 +32,7 @@ fn modifier_of(defaults: &[u8; 1216], front: &[u8]) -> u8
     ensures { λ r. ⌜ r ≡ modifierOf (take 12 (now (front .entry))) ⌝ }
 {
     let modifier = front[1];
-    if modifier == 255 {
+    if modifier == UNNAMED {
         return default_in(defaults, front[0], front[2], front[3]);
     }
     modifier
@@ -47,7 +47,10 @@ fn is_lawful(defaults: &[u8; 1216], front: &[u8]) -> bool
         return false;
     }
     let modifier = modifier_of(defaults, front);
-    (front[0] <= 18) & (modifier <= 6) & (front[2] <= 7) & (front[3] <= 7)
+    (front[0] <= STP as u8)
+        & (modifier <= I)
+        & (front[2] <= POST_INC_INDIRECT_B as u8)
+        & (front[3] <= POST_INC_INDIRECT_B as u8)
 }
 
 // The lowest index of a faulty instruction; how many there are where none is.

@@ -9,10 +9,10 @@ use lib.Dec.{eqb, eqb·suc-zero}
 use lib.ListN.{set}
 use borrow.Author.Tests.{lt-leb}
 use Rattle.laws.specs.Lists.{every}
-use Rattle.load_file.specs.declared.Cell.{Cell}
-use Rattle.load_file.specs.Offset.{ahead}
-use Rattle.load_file.specs.Modifier.{I}
-use Rattle.load_file.proofs.Offsets.{product-fits}
+use Rattle.cell.specs.declared.Cell.{Cell}
+use Rattle.offset.specs.Offset.{ahead}
+use Rattle.types.specs.Modifier.{I}
+use Rattle.offset.proofs.Offsets.{product-fits}
 use Rattle.machine.specs.Execution as Execution
 use Rattle.machine.specs.Execution.{divisor, ends, goes, some?, quotient, remainder, isNone, stored, computes, copied}
 use Rattle.machine.proofs.Execution.{row-computes}
@@ -30,7 +30,7 @@ module _ (its : Registers) where
   stores : (r : Ran (Option ℕ)) (v : ℕ → ℕ → ℕ → ℕ) (c : Cell) → r ≡ start none (stored (λ a b. some (v (its .size) a b)) (mets its) c)
       → Does its (finished (executor its) r) (computes (scene its) (λ m a b. some (v m a b)) c)
   stores r v c e =
-      rw (row-computes v (its .size) (its .pc) (its .jump) (its .ra) (its .rb) (live its) c (its .modifier) (its .modifier-in))
+      rw (row-computes v (its .size) (its .pc) (its .jump) (its .ra) (its .rb) (live its) (live its) c (its .modifier) (its .modifier-in))
       (record {
         core = ap (written its) e;
         next = (none, ap (λ (r : Ran (Option ℕ)). Ok (record { program-counter-offset = r .captured; should-split = false })) e, onward its);
@@ -59,7 +59,7 @@ module _ (its : Registers) where
   -- MUL: no product leaves 32 bits
   pub multiplied : Does its (by-opcode (opcodeOf 4) (its .size) (its .pc) (executor its)) (computes (scene its) Execution.product (live its))
   multiplied =
-      rw (row-computes (λ m a b. a * b % m) (its .size) (its .pc) (its .jump) (its .ra) (its .rb) (live its) (live its) (its .modifier) (its .modifier-in))
+      rw (row-computes (λ m a b. a * b % m) (its .size) (its .pc) (its .jump) (its .ra) (its .rb) (live its) (live its) (live its) (its .modifier) (its .modifier-in))
       (record {
         core = ap (written its) ran;
         next = (none, ap (λ (r : Ran Bool). cond (r .captured) Panic (unless-error none)) ran, onward its);

@@ -5,11 +5,11 @@ use mathlib.Core.Path.{_≡_, refl}
 use mathlib.Core.List.{List, [], _∷_, _++_, map}
 use mathlib.Core.Option.{Option, none, some}
 use lib.ListN.{length, replicate}
-use Rattle.load_file.specs.Cells.{freshCell}
-use Rattle.load_file.specs.Defaults.{unnamed}
-use Rattle.load_file.specs.Opcode.{DAT, MOV, DIV, JMZ, SEQ, SPL}
-use Rattle.load_file.specs.Modifier as modifier
-use Rattle.load_file.specs.Mode as mode
+use Rattle.cell.specs.Cells.{freshCell}
+use Rattle.types.specs.Defaults.{unnamed}
+use Rattle.types.specs.Opcode.{DAT, MOV, DIV, JMZ, SEQ, SPL}
+use Rattle.types.specs.Modifier as modifier
+use Rattle.types.specs.Mode as mode
 use Rattle.machine.specs.Battles.{bytes, datum, word, cell}
 use Rattle.reference.specs.Types.{Instruction}
 use Rattle.reference.specs.Modifiers.{evaluate-a, evaluate-b}

@@ -14,12 +14,12 @@ use lib.ListN.{length, getD, set, length-set, length-map}
 use borrow.Author.Tests.{le-leb}
 use Rattle.laws.proofs.Numbers.{below}
 use Rattle.laws.proofs.Every.{_and_, Every}
-use Rattle.load_file.specs.Offset.{euclid, ahead}
-use Rattle.load_file.specs.Cells.{packed}
-use Rattle.load_file.specs.Defaults.{unnamed, defaultModifier, defaultOf}
-use Rattle.load_file.specs.Modifier as modifier
-use Rattle.load_file.proofs.Soundness.{in-range}
-use Rattle.program.specs.Bytes.{part, value, signed}
+use Rattle.offset.specs.Offset.{euclid, ahead}
+use Rattle.cell.specs.Cells.{packed}
+use Rattle.types.specs.Defaults.{unnamed, defaultModifier, defaultOf}
+use Rattle.types.specs.Modifier as modifier
+use Rattle.cell.proofs.Soundness.{in-range}
+use Rattle.encoding.specs.Bytes.{part, value, signed}
 use Rattle.program.specs.Program as Program
 use Rattle.program.specs.Program.{instructions, split, aModeOf, bModeOf, lawful, lowestFault, cellOf, cells}
 use Rattle.program.proofs.Program.{length-split, Lawful, lawful-fields, all-lawful, twelve-each, lawful-cell}

@@ -9,9 +9,9 @@ use lib.Dec.{eqb, leb, ltb}
 use lib.IntN.{pos}
 use borrow.Author.Tests.{leb-true, leb-false, lt-ltb, le-ltb}
 use Rattle.laws.specs.Lists.{every}
-use Rattle.load_file.specs.Offset.{ahead}
-use Rattle.load_file.specs.Cells.{packed}
-use Rattle.load_file.specs.Modifier.{I}
+use Rattle.offset.specs.Offset.{ahead}
+use Rattle.cell.specs.Cells.{packed}
+use Rattle.types.specs.Modifier.{I}
 use Rattle.machine.specs.Pointers.{less}
 use Rattle.machine.specs.Execution as Execution
 use Rattle.machine.specs.Execution.{Met, some?, branch, skip, stored, equal}

@@ -13,10 +13,10 @@ use Rattle.laws.proofs.Tests.{both}
 use Rattle.laws.proofs.Lists.{map-set}
 use Rattle.laws.proofs.Numbers.{below}
 use Rattle.laws.proofs.Every.{_and_}
-use Rattle.load_file.specs.declared.Cell.{Cell}
-use Rattle.load_file.specs.Cells.{packed, unpacked}
-use Rattle.load_file.proofs.Words.{InRange, unpack-pack, cell-ext}
-use Rattle.load_file.proofs.Soundness.{Sound, in-range}
+use Rattle.cell.specs.declared.Cell.{Cell}
+use Rattle.cell.specs.Cells.{packed, unpacked}
+use Rattle.cell.proofs.Words.{InRange, unpack-pack, cell-ext}
+use Rattle.cell.proofs.Soundness.{Sound, in-range}
 use Rattle.reference.specs.Types.{default, opcode-number, modifier-number, mode-number, field-eq, instruction-eq}
 use Rattle.reference.specs.Address.{get-offset}
 use Rattle.reference.specs.Same.{opcodeOf, modifierOf, modeOf, instructionOf, wordOf}

@@ -9,9 +9,9 @@ use lib.Dec.{eqb}
 use Rattle.laws.specs.Lists.{every}
 use Rattle.laws.proofs.Numbers.{below}
 use Rattle.laws.proofs.Every.{_and_}
-use Rattle.load_file.specs.declared.Cell.{Cell}
-use Rattle.load_file.specs.Types.{Field, A, B}
-use Rattle.load_file.specs.Modifier.{I}
+use Rattle.cell.specs.declared.Cell.{Cell}
+use Rattle.types.specs.Types.{Field, A, B}
+use Rattle.types.specs.Modifier.{I}
 use Rattle.machine.specs.Execution.{Met, isNone, put, stored}
 use Rattle.machine.proofs.Execution.{row}
 use Rattle.reference.specs.Types.{Instruction}

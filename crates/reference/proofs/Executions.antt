@@ -8,9 +8,9 @@ use native.Mathlib.Omega.{arith}
 use lib.ListN.{set}
 use Rattle.laws.proofs.Numbers.{below}
 use Rattle.laws.proofs.Every.{_and_}
-use Rattle.load_file.specs.declared.Cell.{Cell}
-use Rattle.load_file.specs.Offset.{ahead}
-use Rattle.load_file.proofs.Soundness.{in-range}
+use Rattle.cell.specs.declared.Cell.{Cell}
+use Rattle.offset.specs.Offset.{ahead}
+use Rattle.cell.proofs.Soundness.{in-range}
 use Rattle.machine.specs.Execution.{dat, ends, goes, splits, Effect, quotient, remainder, effectOf}
 use Rattle.machine.specs.Instruction.{storeTo}
 use Rattle.machine.proofs.Execution.{SoundStore, effect-sound}

@@ -13,17 +13,17 @@ use lib.IntN.{pos}
 use lib.ListN.{length, drop, length-map}
 use borrow.Author.Tests.{le-ltb, lt-leb, ne-eqb}
 use Rattle.laws.proofs.Every.{_and_}
-use Rattle.load_file.specs.Offset.{ahead}
-use Rattle.load_file.proofs.Offsets.{ahead-lt}
+use Rattle.offset.specs.Offset.{ahead}
+use Rattle.offset.proofs.Offsets.{ahead-lt}
 use Rattle.program.specs.Program.{instructions, split}
-use Rattle.program.specs.Metadata.{called}
-use Rattle.program.proofs.Names.{called-valid}
+use Rattle.metadata.specs.Metadata.{called}
+use Rattle.metadata.proofs.Names.{called-valid}
 use Rattle.program.proofs.Program.{length-split}
 use Rattle.machine.specs.State.{Machine, accepted, refusal, first}
 use Rattle.machine.specs.Names.{slot, registered}
 use Rattle.machine.specs.Queue.{entries}
 use Rattle.machine.specs.Load.{originOf, loaded, loadChecks, load}
-use Rattle.machine.proofs.Checks.{passes, only, other, others, without}
+use Rattle.machine.proofs.Checks.{passed, only, other, others, without}
 use Rattle.machine.proofs.Soundness.{size-positive, size-most, size-small}
 use Rattle.machine.proofs.Bounds.{registered-below}
 use Rattle.machine.proofs.Load.{Loadable, loadable, placing, placing-room, placing-sound, placing-held, load-by-cases}
@@ -61,7 +61,7 @@ origin-fits origin h = ap (leb (2 ^ 31)) (origin-is origin) ∙ lt-leb (2 ^ 31) 
 
 module _ (m : Machine) (c : Core) (s : SoundMachine m) (same : Same m c) (given body : List ℕ) (origin : ℕ) (small : origin ≤ 65535) where
   abbrev size : ℕ
-  size = m .header .size
+  size = m .header .rules .size
 
   abbrev given-instructions : List Instruction
   given-instructions = map readInstruction (split (instructions body) body)
@@ -110,7 +110,7 @@ module _ (m : Machine) (c : Core) (s : SoundMachine m) (same : Same m c) (given 
     w = named m c (s .header) (s .agree) same (called given) (called-valid given (l .valid) .0) (l .free)
 
     abbrev i : ℕ
-    i = slot (m .header) (called given)
+    i = slot (m .header .names) (called given)
 
     abbrev place : ℕ
     place = ahead size 0 (originOf origin)
@@ -155,7 +155,7 @@ module _ (m : Machine) (c : Core) (s : SoundMachine m) (same : Same m c) (given 
               started-same (placing m given body 0) rust placing-same (placing-sound m given body 0 (s .header) l) place i (called given)
               (placing-held m given body 0 (s .header) l)
               (let p : place < size = ahead-lt size 0 (originOf origin) (size-positive m (s .header)) in omega (arith, size-small m (s .header)))
-              (let t = registered-below (m .header) (called given) (s .numbers) (passes (loadChecks m given body 0) e .1 .1 .1 .1 .1 .0) in omega arith)
+              (let t = registered-below (m .header) (called given) (s .numbers) (passed (loadChecks m given body 0) e .1 .1 .1 .1 .1 .1 .0) in omega arith)
               (placing-room m given body 0 (l .room));
         })
 

@@ -67,15 +67,15 @@ pairs-insert-new n y (x ∷ xs) (v ∷ vs) h l = go (same n x) h (λ k. pairs-in
     go false h r = ap (λ l. record { key = x; value = v } ∷ l) (r (omega arith))
 
 -- a name that is held
-module _ (h : Header) (i : ℕ) (t : List ℕ) (r : Held h i t) (few : h .held ≤ 16) (vs : List ℕ) (long : length vs ≡ 16) where
-  found : lowest (same t) (names h) < length (names h)
+module _ (h : Header) (i : ℕ) (t : List ℕ) (r : Held h i t) (few : h .names .held ≤ 16) (vs : List ℕ) (long : length vs ≡ 16) where
+  found : lowest (same t) (names (h .names)) < length (names (h .names))
   found = rw (r .own, length-names h) (r .below)
 
-  enough : length (names h) ≤ length vs
+  enough : length (names (h .names)) ≤ length vs
   enough = rw (length-names h, long) few
 
-  pub get-held : get t (pairs (names h) vs) ≡ some (getD vs i 0)
-  get-held = pairs-get t (names h) vs found enough ∙ ap (λ (j : ℕ). some (getD vs j 0)) (r .own)
+  pub get-held : get t (pairs (names (h .names)) vs) ≡ some (getD vs i 0)
+  get-held = pairs-get t (names (h .names)) vs found enough ∙ ap (λ (j : ℕ). some (getD vs j 0)) (r .own)
 
-  pub insert-held : (y : ℕ) → insert t y (pairs (names h) vs) ≡ pairs (names h) (set vs i y)
-  insert-held y = pairs-insert t y (names h) vs found enough ∙ ap (λ (j : ℕ). pairs (names h) (set vs j y)) (r .own)
+  pub insert-held : (y : ℕ) → insert t y (pairs (names (h .names)) vs) ≡ pairs (names (h .names)) (set vs i y)
+  insert-held y = pairs-insert t y (names (h .names)) vs found enough ∙ ap (λ (j : ℕ). pairs (names (h .names)) (set vs j y)) (r .own)

@@ -8,9 +8,9 @@ use native.Mathlib.Omega.{arith}
 use lib.Dec.{ltb}
 use lib.IntN.{ℤ, pos, negsuc, subℕ, _+ℤ_, _-ℤ_}
 use borrow.Author.Tests.{ltb-true, ltb-false, lt-ltb, le-ltb}
-use Rattle.load_file.specs.Offset.{euclid, ahead}
-use Rattle.load_file.proofs.Offsets.{euclid-pos, euclid-neg, ahead-lt}
-use Rattle.program.specs.Bytes.{signed}
+use Rattle.offset.specs.Offset.{euclid, ahead}
+use Rattle.offset.proofs.Offsets.{euclid-pos, euclid-neg, ahead-lt}
+use Rattle.encoding.specs.Bytes.{signed}
 use Rattle.reference.specs.Offset.{offset, i32, add, sub, add-i32, sub-i32}
 
 word-size : 2 ^ 32 ≡ 0 → ⊥

@@ -9,13 +9,14 @@ use native.Mathlib.Omega.{arith}
 use lib.Dec.{eqb}
 use lib.ListN.{length, getD, set}
 use borrow.Author.Tests.{eqb-true, eqb-false}
-use Rattle.load_file.specs.declared.Cell.{Cell}
-use Rattle.load_file.specs.Offset.{ahead}
-use Rattle.load_file.specs.Types.{Field, A, B}
-use Rattle.load_file.specs.Cells.{unpacked, number, withNumber}
-use Rattle.load_file.proofs.Offsets.{ahead-lt}
-use Rattle.load_file.proofs.Words.{word-range}
-use Rattle.machine.specs.Pointers.{Reach, here, reaches, Turn, keeps, lowers, raises, turns, fieldOf, less, more, used, pointerOf, changed, before, after, Operand, operand}
+use Rattle.cell.specs.declared.Cell.{Cell}
+use Rattle.offset.specs.Offset.{ahead}
+use Rattle.types.specs.Types.{Field, A, B}
+use Rattle.cell.specs.Cells.{unpacked, number, withNumber}
+use Rattle.offset.proofs.Offsets.{ahead-lt}
+use Rattle.cell.proofs.Words.{word-range}
+use Rattle.machine.specs.State.{ofSize}
+use Rattle.machine.specs.Pointers.{Reach, here, reaches, Shift, keeps, lowers, raises, shifts, fieldOf, less, more, used, pointerOf, changed, before, after, siteAt, Operand, operand}
 use Rattle.machine.proofs.Pointers.{changed-same, changed-other, length-before, SoundCore, fields-at, number-lt, pointer-lt}
 use Rattle.reference.specs.Types as Rust
 use Rattle.reference.specs.Types.{AddressMode, Immediate, Direct, IndirectA, IndirectB, PreDecIndirectA, PreDecIndirectB, PostIncIndirectA, PostIncIndirectB, Instruction}
@@ -24,7 +25,7 @@ use Rattle.reference.specs.Address.{get-offset, resolve-pointer, Pre, Po
 use Rattle.reference.specs.Modifiers.{Evaluated}
 use Rattle.reference.specs.Same.{modeOf, instructionOf, wordOf}
 use Rattle.reference.proofs.Cells.{get-word}
-use Rattle.reference.proofs.Pointers.{fieldAt, reachOf, turnOf, reach-is, turn-is, same-set, pointer-is, applied-is}
+use Rattle.reference.proofs.Pointers.{fieldAt, reachOf, shiftOf, reach-is, shift-is, same-set, pointer-is, applied-is}
 
 -- the codes of a cell
 pub record Codes (c d : Cell) : Type 0 where
@@ -77,7 +78,7 @@ evaluate s m core pc =
     record { core = apply-pointer m lowered pc (field s (get-offset lowered pc)) Post; ptr = ptr; value = get-offset lowered ptr }
 
 -- after a decrement there is no increment
-post-kept : (m : ℕ) (core : List Instruction) (pc : ℕ) (f : Rust.Field) (mode : AddressMode) → f .address-mode ≡ mode → turnOf mode ≡ lowers
+post-kept : (m : ℕ) (core : List Instruction) (pc : ℕ) (f : Rust.Field) (mode : AddressMode) → f .address-mode ≡ mode → shiftOf mode ≡ lowers
     → apply-pointer m core pc f Post ≡ core
 post-kept m core pc f mode e t =
     ap (λ (x : AddressMode). set core l (applied m Post x (offset m (i .a-field .value)) (offset m (i .b-field .value)) i)) e ∙ go mode t
@@ -88,12 +89,12 @@ post-kept m core pc f mode e t =
     i : Instruction
     i = get-offset core l
 
-    Lowers : Turn → Type 0
+    Lowers : Shift → Type 0
     Lowers keeps = ⊥
     Lowers lowers = Unit {0}
     Lowers raises = ⊥
 
-    go : (mode : AddressMode) → turnOf mode ≡ lowers → set core l (applied m Post mode (offset m (i .a-field .value)) (offset m (i .b-field .value)) i) ≡ core
+    go : (mode : AddressMode) → shiftOf mode ≡ lowers → set core l (applied m Post mode (offset m (i .a-field .value)) (offset m (i .b-field .value)) i) ≡ core
     go Immediate t = same-set core l
     go Direct t = same-set core l
     go IndirectA t = same-set core l
@@ -105,13 +106,13 @@ post-kept m core pc f mode e t =
 
 -- our operand as the Rust has it
 abbrev pub seen : Operand → Evaluated
-seen o = record { core = map wordOf (o .core); ptr = o .pointer; value = instructionOf (o .register) }
+seen o = record { core = map wordOf (o .core); ptr = o .read; value = instructionOf (o .register) }
 
 module _ (size : ℕ) (small : size ≤ 46341) (core : List ℕ) (sound : SoundCore size core) where
   fits : 0 < size → (x : ℕ) → x % size < 65536
   fits some x = let h : x % size < size = mod-lt x some in omega arith
 
-  -- the parts of an operand, by its reach and turn
+  -- the parts of an operand, by its reach and shift
   module _ (pc n : ℕ) (reach : Reach) where
     abbrev location : ℕ
     location = ahead size pc n
@@ -119,35 +120,35 @@ module _ (size : ℕ) (small : size ≤ 46341) (core : List ℕ) (sound : SoundC
     abbrev held : ℕ
     held = number (fieldOf reach) (unpacked (getD core location 0))
 
-    abbrev lowered : Turn → List ℕ
-    lowered turn = before turn size core location (fieldOf reach) held
+    abbrev lowered : Shift → List ℕ
+    lowered shift = before shift size core location (fieldOf reach) held
 
-    abbrev raised : Turn → List ℕ
-    raised turn = after turn size (lowered turn) location (fieldOf reach) held
+    abbrev raised : Shift → List ℕ
+    raised shift = after shift size (lowered shift) location (fieldOf reach) held
 
-    abbrev pointer : Turn → ℕ
-    pointer turn = pointerOf reach size pc location (used turn size held)
+    abbrev pointer : Shift → ℕ
+    pointer shift = pointerOf reach size pc location (used shift size held)
 
-    abbrev result : Turn → Evaluated
-    result turn = record { core = map wordOf (raised turn); ptr = pointer turn; value = wordOf (getD (lowered turn) (pointer turn) 0) }
+    abbrev result : Shift → Evaluated
+    result shift = record { core = map wordOf (raised shift); ptr = pointer shift; value = wordOf (getD (lowered shift) (pointer shift) 0) }
 
     module _ (some : 0 < size) where
       changed-here : (x : ℕ) → x < 65536 → (j : ℕ) → Codes (unpacked (getD (changed core location (fieldOf reach) x) j 0)) (unpacked (getD core j 0))
       changed-here x h = changed-codes core location (fieldOf reach) x h (rw (sound .length) (ahead-lt size pc n some))
 
-      lowered-codes : (turn : Turn) (j : ℕ) → Codes (unpacked (getD (lowered turn) j 0)) (unpacked (getD core j 0))
+      lowered-codes : (shift : Shift) (j : ℕ) → Codes (unpacked (getD (lowered shift) j 0)) (unpacked (getD core j 0))
       lowered-codes keeps j = same-codes _
       lowered-codes lowers j = changed-here (less size held) (fits some _) j
       lowered-codes raises j = same-codes _
 
-      raised-codes : (turn : Turn) (j : ℕ) → Codes (unpacked (getD (raised turn) j 0)) (unpacked (getD core j 0))
+      raised-codes : (shift : Shift) (j : ℕ) → Codes (unpacked (getD (raised shift) j 0)) (unpacked (getD core j 0))
       raised-codes keeps j = same-codes _
       raised-codes lowers j = changed-here (less size held) (fits some _) j
       raised-codes raises j = changed-here (more size held) (fits some _) j
 
-  pub operand-codes : 0 < size → (pc k n j : ℕ) → Codes (unpacked (getD (operand size core pc k n .core) j 0)) (unpacked (getD core j 0))
+  pub operand-codes : 0 < size → (pc k n j : ℕ) → Codes (unpacked (getD (operand (siteAt (ofSize size) pc) core k n .core) j 0)) (unpacked (getD core j 0))
   unfolding operand
-  operand-codes some pc k n j = raised-codes pc n (getD reaches k here) some (getD turns k keeps) j
+  operand-codes some pc k n j = raised-codes pc n (getD reaches k here) some (getD shifts k keeps) j
 
   module _ (s : Field) (pc : ℕ) (pc-in : pc < size) where
     abbrev c : Cell
@@ -164,10 +165,10 @@ module _ (size : ℕ) (small : size ≤ 46341) (core : List ℕ) (sound : SoundC
 
     -- after the decrement, or without one
     abbrev then : AddressMode → List ℕ
-    then m = lowered pc n (reachOf m) (turnOf m)
+    then m = lowered pc n (reachOf m) (shiftOf m)
 
     then-long : (m : AddressMode) → length (then m) ≡ size
-    then-long m = length-before (turnOf m) size core (ahead size pc n) (fieldOf (reachOf m)) _ ∙ sound .length
+    then-long m = length-before (shiftOf m) size core (ahead size pc n) (fieldOf (reachOf m)) _ ∙ sound .length
 
     module _ (m : AddressMode) (e : modeOf (mode s c) ≡ m) where
       field-read : field s (get-offset (map wordOf core) pc) ≡ fieldAt m n
@@ -176,18 +177,18 @@ module _ (size : ℕ) (small : size ≤ 46341) (core : List ℕ) (sound : SoundC
 
       -- no decrement: the field is as it was
       plain : apply-pointer size (map wordOf core) pc (field s (get-offset (map wordOf core) pc)) Post
-          ≡ map wordOf (after (turnOf m) size core (ahead size pc n) (fieldOf (reachOf m)) (held pc n (reachOf m)))
+          ≡ map wordOf (after (shiftOf m) size core (ahead size pc n) (fieldOf (reachOf m)) (held pc n (reachOf m)))
       plain =
           ap (λ (f : Rust.Field). apply-pointer size (map wordOf core) pc f Post) field-read
           ∙ applied-is size small core sound pc n pc-in n-in Post m
 
       -- a decrement: the mode is as it was
-      turned : turnOf m ≡ lowers → apply-pointer size (map wordOf (then m)) pc (field s (get-offset (map wordOf (then m)) pc)) Post ≡ map wordOf (then m)
-      turned t =
+      lowered-once : shiftOf m ≡ lowers → apply-pointer size (map wordOf (then m)) pc (field s (get-offset (map wordOf (then m)) pc)) Post ≡ map wordOf (then m)
+      lowered-once t =
           post-kept size (map wordOf (then m)) pc _ m
           (ap (λ (i : Instruction). field s i .address-mode) (get-word (then m) pc (rw (then-long m) pc-in))
           ∙ ap (λ (f : Rust.Field). f .address-mode) (field-is s (unpacked (getD (then m) pc 0)))
-          ∙ ap modeOf (mode-codes s (lowered-codes pc n (reachOf m) some (turnOf m) pc))
+          ∙ ap modeOf (mode-codes s (lowered-codes pc n (reachOf m) some (shiftOf m) pc))
           ∙ e) t
 
       pre : apply-pointer size (map wordOf core) pc (field s (get-offset (map wordOf core) pc)) Pre ≡ map wordOf (then m)
@@ -195,32 +196,32 @@ module _ (size : ℕ) (small : size ≤ 46341) (core : List ℕ) (sound : SoundC
           ap (λ (f : Rust.Field). apply-pointer size (map wordOf core) pc f Pre) field-read
           ∙ applied-is size small core sound pc n pc-in n-in Pre m
 
-      ptr : resolve-pointer size (map wordOf core) pc (field s (get-offset (map wordOf core) pc)) ≡ pointer pc n (reachOf m) (turnOf m)
+      ptr : resolve-pointer size (map wordOf core) pc (field s (get-offset (map wordOf core) pc)) ≡ pointer pc n (reachOf m) (shiftOf m)
       ptr = ap (resolve-pointer size (map wordOf core) pc) field-read ∙ pointer-is size small core sound pc n pc-in n-in m
 
-      copy : get-offset (map wordOf (then m)) (pointer pc n (reachOf m) (turnOf m)) ≡ result pc n (reachOf m) (turnOf m) .value
+      copy : get-offset (map wordOf (then m)) (pointer pc n (reachOf m) (shiftOf m)) ≡ result pc n (reachOf m) (shiftOf m) .value
       copy = get-word (then m) _ (rw (then-long m) (pointer-lt size (reachOf m) pc (ahead size pc n) _ pc-in (ahead-lt size pc n some)))
 
     post : (m : AddressMode) → modeOf (mode s c) ≡ m
-        → apply-pointer size (map wordOf (then m)) pc (field s (get-offset (map wordOf (then m)) pc)) Post ≡ result pc n (reachOf m) (turnOf m) .core
+        → apply-pointer size (map wordOf (then m)) pc (field s (get-offset (map wordOf (then m)) pc)) Post ≡ result pc n (reachOf m) (shiftOf m) .core
     post Immediate e = plain Immediate e
     post Direct e = plain Direct e
     post IndirectA e = plain IndirectA e
     post IndirectB e = plain IndirectB e
-    post PreDecIndirectA e = turned PreDecIndirectA e refl
-    post PreDecIndirectB e = turned PreDecIndirectB e refl
+    post PreDecIndirectA e = lowered-once PreDecIndirectA e refl
+    post PreDecIndirectB e = lowered-once PreDecIndirectB e refl
     post PostIncIndirectA e = plain PostIncIndirectA e
     post PostIncIndirectB e = plain PostIncIndirectB e
 
-    evaluate-result : (m : AddressMode) → modeOf (mode s c) ≡ m → evaluate s size (map wordOf core) pc ≡ result pc n (reachOf m) (turnOf m)
+    evaluate-result : (m : AddressMode) → modeOf (mode s c) ≡ m → evaluate s size (map wordOf core) pc ≡ result pc n (reachOf m) (shiftOf m)
     evaluate-result m e = λ i. record {
       core = (ap (λ (x : List Instruction). apply-pointer size x pc (field s (get-offset x pc)) Post) (pre m e) ∙ post m e) i;
       ptr = ptr m e i;
       value = (ap₂ get-offset (pre m e) (ptr m e) ∙ copy m e) i;
     }
 
-    pub evaluate-is : evaluate s size (map wordOf core) pc ≡ seen (operand size core pc (mode s c) n)
+    pub evaluate-is : evaluate s size (map wordOf core) pc ≡ seen (operand (siteAt (ofSize size) pc) core (mode s c) n)
     unfolding operand
     evaluate-is =
         evaluate-result (modeOf (mode s c)) refl
-        ∙ sym (ap₂ (λ (r : Reach) (t : Turn). result pc n r t) (reach-is (mode s c) (mode-in s (getD core pc 0))) (turn-is (mode s c) (mode-in s (getD core pc 0))))
+        ∙ sym (ap₂ (λ (r : Reach) (t : Shift). result pc n r t) (reach-is (mode s c) (mode-in s (getD core pc 0))) (shift-is (mode s c) (mode-in s (getD core pc 0))))

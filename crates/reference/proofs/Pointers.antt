@@ -10,14 +10,14 @@ use lib.ListN.{length, getD, set}
 use lib.Seq.{set-getD}
 use Rattle.laws.proofs.Numbers.{below}
 use Rattle.laws.proofs.Every.{_and_}
-use Rattle.load_file.specs.declared.Cell.{Cell}
-use Rattle.load_file.specs.Offset.{ahead}
-use Rattle.load_file.specs.Types.{Field, A, B}
-use Rattle.load_file.specs.Cells.{unpacked, number, withNumber}
-use Rattle.load_file.proofs.Offsets.{ahead-lt}
-use Rattle.load_file.proofs.Words.{word-range, with-range}
-use Rattle.load_file.proofs.Soundness.{Sound}
-use Rattle.machine.specs.Pointers.{Reach, here, there, through, reaches, Turn, keeps, lowers, raises, turns, fieldOf, used, pointerOf, changed, before, after}
+use Rattle.cell.specs.declared.Cell.{Cell}
+use Rattle.offset.specs.Offset.{ahead}
+use Rattle.types.specs.Types.{Field, A, B}
+use Rattle.cell.specs.Cells.{unpacked, number, withNumber}
+use Rattle.offset.proofs.Offsets.{ahead-lt}
+use Rattle.cell.proofs.Words.{word-range, with-range}
+use Rattle.cell.proofs.Soundness.{Sound}
+use Rattle.machine.specs.Pointers.{Reach, here, there, through, reaches, Shift, keeps, lowers, raises, shifts, fieldOf, used, pointerOf, changed, before, after}
 use Rattle.machine.proofs.Pointers.{SoundCore, fields-at}
 use Rattle.reference.specs.Types as Rust
 use Rattle.reference.specs.Types.{AddressMode, Immediate, Direct, IndirectA, IndirectB, PreDecIndirectA, PreDecIndirectB, PostIncIndirectA, PostIncIndirectB, Instruction, default, set-a, set-b}
@@ -42,26 +42,26 @@ reachOf PreDecIndirectB = through B
 reachOf PostIncIndirectA = through A
 reachOf PostIncIndirectB = through B
 
-abbrev pub turnOf : AddressMode → Turn
-turnOf Immediate = keeps
-turnOf Direct = keeps
-turnOf IndirectA = keeps
-turnOf IndirectB = keeps
-turnOf PreDecIndirectA = lowers
-turnOf PreDecIndirectB = lowers
-turnOf PostIncIndirectA = raises
-turnOf PostIncIndirectB = raises
+abbrev pub shiftOf : AddressMode → Shift
+shiftOf Immediate = keeps
+shiftOf Direct = keeps
+shiftOf IndirectA = keeps
+shiftOf IndirectB = keeps
+shiftOf PreDecIndirectA = lowers
+shiftOf PreDecIndirectB = lowers
+shiftOf PostIncIndirectA = raises
+shiftOf PostIncIndirectB = raises
 
 -- the core after either of them
-abbrev pub turnAt : EvalTime → Turn → ℕ → List ℕ → ℕ → Field → ℕ → List ℕ
-turnAt Pre = before
-turnAt Post = after
+abbrev pub shiftAt : EvalTime → Shift → ℕ → List ℕ → ℕ → Field → ℕ → List ℕ
+shiftAt Pre = before
+shiftAt Post = after
 
 pub reach-is : (k : ℕ) → k < 8 → getD reaches k here ≡ reachOf (modeOf k)
 reach-is = below _ 8 (refl and refl and refl and refl and refl and refl and refl and refl and tt)
 
-pub turn-is : (k : ℕ) → k < 8 → getD turns k keeps ≡ turnOf (modeOf k)
-turn-is = below _ 8 (refl and refl and refl and refl and refl and refl and refl and refl and tt)
+pub shift-is : (k : ℕ) → k < 8 → getD shifts k keeps ≡ shiftOf (modeOf k)
+shift-is = below _ 8 (refl and refl and refl and refl and refl and refl and refl and refl and tt)
 
 -- a cell set to what it is
 pub same-set : (core : List Instruction) (i : ℕ) → set core i (get-offset core i) ≡ core
@@ -103,12 +103,12 @@ module _ (size : ℕ) (small : size ≤ 46341) (core : List ℕ) (sound : SoundC
 
   -- resolve_pointer
   pub pointer-is : (mode : AddressMode) → resolve-pointer size instructions pc (fieldAt mode n)
-      ≡ pointerOf (reachOf mode) size pc location (used (turnOf mode) size (number (fieldOf (reachOf mode)) cell))
+      ≡ pointerOf (reachOf mode) size pc location (used (shiftOf mode) size (number (fieldOf (reachOf mode)) cell))
   pointer-is mode =
       ap (λ (i : Instruction). add-i32 size pc (relative mode (pos n) (i .a-field .value) (i .b-field .value))) found ∙ go mode
     where
       go : (mode : AddressMode) → add-i32 size pc (relative mode (pos n) (pos (cell .a .0)) (pos (cell .b .0)))
-          ≡ pointerOf (reachOf mode) size pc location (used (turnOf mode) size (number (fieldOf (reachOf mode)) cell))
+          ≡ pointerOf (reachOf mode) size pc location (used (shiftOf mode) size (number (fieldOf (reachOf mode)) cell))
       go Immediate = add-num size some small pc 0 pc-in ∙ ap (λ (k : ℕ). k % size) (add-zero pc) ∙ mod-eq-of-lt pc-in
       go Direct = location-is
       go IndirectA = through-is size some small pc n (cell .a .0) pc-in n-in (cell-in .a)
@@ -138,12 +138,12 @@ module _ (size : ℕ) (small : size ≤ 46341) (core : List ℕ) (sound : SoundC
 
   -- the decrement, or the increment
   pub applied-is : (t : EvalTime) (mode : AddressMode) → apply-pointer size instructions pc (fieldAt mode n) t
-      ≡ map wordOf (turnAt t (turnOf mode) size core location (fieldOf (reachOf mode)) (number (fieldOf (reachOf mode)) cell))
+      ≡ map wordOf (shiftAt t (shiftOf mode) size core location (fieldOf (reachOf mode)) (number (fieldOf (reachOf mode)) cell))
   applied-is t mode = apply-is mode t ∙ go t mode
     where
       go : (t : EvalTime) (mode : AddressMode)
           → set instructions location (applied size t mode (offset size (pos (cell .a .0))) (offset size (pos (cell .b .0))) (instructionOf cell))
-          ≡ map wordOf (turnAt t (turnOf mode) size core location (fieldOf (reachOf mode)) (number (fieldOf (reachOf mode)) cell))
+          ≡ map wordOf (shiftAt t (shiftOf mode) size core location (fieldOf (reachOf mode)) (number (fieldOf (reachOf mode)) cell))
       go Pre Immediate = kept
       go Pre Direct = kept
       go Pre IndirectA = kept

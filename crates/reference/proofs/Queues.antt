@@ -29,10 +29,10 @@ named t e = record { name = t; thread = e .thread; offset = e .place .0 }
 
 -- push, with a thread number given
 module _ (m : Machine) (c : Core) (s : Same m c) (sound : SoundHeader m) (e : Entry) (t : List ℕ) (held : Held (m .header) (e .name) t)
-    (place : e .place .0 < 2 ^ 16) (thread : e .thread < 2 ^ 32) (room : m .header .length < length (m .queue)) where
+    (place : e .place .0 < 2 ^ 16) (thread : e .thread < 2 ^ 32) (room : m .header .ring .length < length (m .queue)) where
   packed-is : entryOf (m .header) (packedEntry e) ≡ named t e
   packed-is =
-      ap (λ (x : Entry). named (getD (names (m .header)) (x .name) []) x) (unpack-pack-entry e place thread (omega (arith, held .below, sound .few)))
+      ap (λ (x : Entry). named (getD (names (m .header .names)) (x .name) []) x) (unpack-pack-entry e place thread (omega (arith, held .below, sound .few)))
       ∙ ap (λ (x : List ℕ). named x e) (held .at)
 
   queue-push : c .process-queue .queue ++ (named t e ∷ []) ≡ map (entryOf (m .header)) (entries (push e m))
@@ -41,10 +41,10 @@ module _ (m : Machine) (c : Core) (s : Same m c) (sound : SoundHeader m) (e : En
       ∙ sym (ap (map (entryOf (m .header))) (entries-push e m (sound .head) room) ∙ map-append (entryOf (m .header)) (entries m) (packedEntry e ∷ []))
 
   counts-push : insert t (or-zero (get t (c .process-queue .processes)) + 1) (c .process-queue .processes)
-      ≡ pairs (names (m .header)) (set (m .header .counts) (e .name) (getD (m .header .counts) (e .name) 0 + 1))
+      ≡ pairs (names (m .header .names)) (set (m .header .counts) (e .name) (getD (m .header .counts) (e .name) 0 + 1))
   counts-push =
       ap (λ (p : List Pair). insert t (or-zero (get t p) + 1) p) (s .processes)
-      ∙ ap (λ (o : Option ℕ). insert t (or-zero o + 1) (pairs (names (m .header)) (m .header .counts)))
+      ∙ ap (λ (o : Option ℕ). insert t (or-zero o + 1) (pairs (names (m .header .names)) (m .header .counts)))
       (get-held (m .header) (e .name) t held (sound .few) (m .header .counts) (sound .shape .counts))
       ∙ insert-held (m .header) (e .name) t held (sound .few) (m .header .counts) (sound .shape .counts) _
 
@@ -55,7 +55,7 @@ module _ (m : Machine) (c : Core) (s : Same m c) (sound : SoundHeader m) (e : En
 
 -- a process started: pushed with the name's next thread number, which rises by one
 module _ (m : Machine) (c : Core) (s : Same m c) (sound : SoundHeader m) (place i : ℕ) (t : List ℕ) (held : Held (m .header) i t)
-    (place-in : place < 2 ^ 16) (thread-in : getD (m .header .threads) i 0 < 2 ^ 32) (room : m .header .length < length (m .queue)) where
+    (place-in : place < 2 ^ 16) (thread-in : getD (m .header .threads) i 0 < 2 ^ 32) (room : m .header .ring .length < length (m .queue)) where
   abbrev thread : ℕ
   thread = getD (m .header .threads) i 0
 
@@ -125,7 +125,7 @@ module _ (m : Machine) (c : Core) (s : Same m c) (r : Ready m) where
   left =
       record {
         queue = map (entryOf (m .header)) (entries (pop m));
-        processes = pairs (names (m .header)) fewer;
+        processes = pairs (names (m .header .names)) fewer;
         next-thread-id = c .process-queue .next-thread-id;
       }
 

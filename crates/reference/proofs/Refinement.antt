@@ -8,12 +8,14 @@ use mathlib.Core.Option.{some}
 use native.Mathlib.Omega.{arith}
 use lib.ListN.{length, replicate, length-replicate}
 use borrow.Author.Tests.{ne-eqb}
-use Rattle.load_file.specs.Cells.{freshCell}
+use Rattle.cell.specs.Cells.{freshCell}
+use Rattle.machine.specs.declared.Rules.{Rules}
 use Rattle.machine.specs.State.{Machine}
 use Rattle.machine.specs.Queue.{entries}
-use Rattle.machine.specs.Load.{freshMachine, fresh, load}
+use Rattle.machine.specs.Fresh.{freshMachine, fresh}
+use Rattle.machine.specs.Load.{load}
 use Rattle.machine.proofs.Soundness.{SoundHeader, size-most}
-use Rattle.machine.proofs.Load.{fresh-accepted}
+use Rattle.machine.proofs.Fresh.{fresh-accepted}
 use Rattle.machine.proofs.SoundMachine.{SoundMachine, fresh-sound}
 use Rattle.account.specs.Calls.{Call, Load, Step, Run, outcome}
 use Rattle.account.proofs.NeverNine.{call-sound}
@@ -50,11 +52,11 @@ abbrev created : ℕ → Core
 created size =
     record { instructions = replicate size default; process-queue = record { queue = []; processes = []; next-thread-id = [] }; steps-taken = 0 }
 
-fresh-same : (size : ℕ) (core queue : List ℕ) → length core ≡ size → Same (freshMachine size core queue) (created size)
+fresh-same : (rules : Rules) (core queue : List ℕ) → length core ≡ rules .size → Same (freshMachine rules core queue) (created (rules .size))
 unfolding entries
-fresh-same size core queue e =
+fresh-same rules core queue e =
     record {
-      instructions = fresh-cells size ∙ ap (λ (n : ℕ). map wordOf (replicate n freshCell)) (sym e);
+      instructions = fresh-cells (rules .size) ∙ ap (λ (n : ℕ). map wordOf (replicate n freshCell)) (sym e);
       queue = refl;
       processes = refl;
       next-thread-id = refl;
@@ -63,19 +65,19 @@ fresh-same size core queue e =
 
 -- THE THEOREM
 pub refinement : Refinement
-refinement size core queue ok = (created size, made, λ calls. lists-agree calls (fresh size core queue .machine) (created size) sound same)
+refinement rules core queue ok = (created (rules .size), made, λ calls. lists-agree calls (fresh rules core queue .machine) (created (rules .size)) sound same)
   where
-    is : fresh size core queue .machine ≡ freshMachine size core queue
-    is = fresh-accepted size core queue ok .1
+    is : fresh rules core queue .machine ≡ freshMachine rules core queue
+    is = fresh-accepted rules core queue ok .1
 
-    sound : SoundMachine (fresh size core queue .machine)
-    sound = fresh-sound size core queue ok
+    sound : SoundMachine (fresh rules core queue .machine)
+    sound = fresh-sound rules core queue ok
 
-    header : SoundHeader (freshMachine size core queue)
+    header : SoundHeader (freshMachine rules core queue)
     header = subst SoundHeader is (sound .header)
 
-    made : new size ≡ some (created size)
-    made = simp (ne-eqb size (2 ^ 32 - 1) (λ e. omega (arith, size-most (freshMachine size core queue) header)))
+    made : new (rules .size) ≡ some (created (rules .size))
+    made = simp (ne-eqb (rules .size) (2 ^ 32 - 1) (λ e. omega (arith, size-most (freshMachine rules core queue) header)))
 
-    same : Same (fresh size core queue .machine) (created size)
-    same = rw is (fresh-same size core queue (sym (length-replicate (length core) freshCell) ∙ header .core))
+    same : Same (fresh rules core queue .machine) (created (rules .size))
+    same = rw is (fresh-same rules core queue (sym (length-replicate (length core) freshCell) ∙ header .core))

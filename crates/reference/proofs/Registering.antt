@@ -35,32 +35,32 @@ module _ (m : Machine) (c : Core) (sound : SoundHeader m) (agree : Agree m) (s :
   h = m .header
 
   -- a new name
-  module _ (e : slot h n ≡ h .held) (room : h .held < 16) where
+  module _ (e : slot (h .names) n ≡ h .names .held) (room : h .names .held < 16) where
     abbrev g : Header
     g = register h n
 
-    news : names g ≡ names h ++ (n ∷ [])
+    news : names (g .names) ≡ names (h .names) ++ (n ∷ [])
     news = names-register h n (sound .shape) room fits (name-short m sound)
 
-    held : Held g (h .held) n
+    held : Held g (h .names .held) n
     held = rw e at (held-register h n news e)
 
-    few : g .held ≤ 16
+    few : g .names .held ≤ 16
     unfolding register
     few = omega arith
 
     -- earlier entries keep their names
-    kept : (ws : List ℕ) → Known (h .held) ws → map (entryOf h) ws ≡ map (entryOf g) ws
+    kept : (ws : List ℕ) → Known (h .names .held) ws → map (entryOf h) ws ≡ map (entryOf g) ws
     kept [] k = refl
     kept (w ∷ ws) k =
         ap₂ _∷_
         (ap (λ (x : List ℕ). record { name = x; thread = unpackedEntry w .thread; offset = unpackedEntry w .place .0 })
         (sym (ap (λ (l : List (List ℕ)). getD l (unpackedEntry w .name) []) news
-        ∙ List·getD-append (names h) (n ∷ []) [] (unpackedEntry w .name) (rw (length-names h) (k .0)))))
+        ∙ List·getD-append (names (h .names)) (n ∷ []) [] (unpackedEntry w .name) (rw (length-names h) (k .0)))))
         (kept ws (k .1))
 
     abbrev queue : Queue
-    queue = record { queue = c .process-queue .queue; processes = pairs (names g) (g .counts); next-thread-id = pairs (names g) (g .threads) }
+    queue = record { queue = c .process-queue .queue; processes = pairs (names (g .names)) (g .counts); next-thread-id = pairs (names (g .names)) (g .threads) }
 
     new-same : Same (holding (m .core) g m) (with-queue c queue)
     unfolding register entries
@@ -74,46 +74,46 @@ module _ (m : Machine) (c : Core) (sound : SoundHeader m) (agree : Agree m) (s :
         }
 
     -- a map without the name, and one with it and 0: the same once it is raised
-    module _ (vs us : List ℕ) (p : List Pair) (l : length vs ≡ 16) (u : us ≡ set vs (h .held) 0) (q : p ≡ pairs (names h) vs) where
-      free : lowest (same n) (names h) ≡ length (names h)
+    module _ (vs us : List ℕ) (p : List Pair) (l : length vs ≡ 16) (u : us ≡ set vs (h .names .held) 0) (q : p ≡ pairs (names (h .names)) vs) where
+      free : lowest (same n) (names (h .names)) ≡ length (names (h .names))
       free = e ∙ sym (length-names h)
 
       long : length us ≡ 16
       long = ap length u ∙ length-set vs _ _ ∙ l
 
       none-yet : get n p ≡ none
-      none-yet = ap (get n) q ∙ pairs-get-new n (names h) vs free
+      none-yet = ap (get n) q ∙ pairs-get-new n (names (h .names)) vs free
 
-      zero-there : get n (pairs (names g) us) ≡ some 0
+      zero-there : get n (pairs (names (g .names)) us) ≡ some 0
       zero-there =
-          get-held g (h .held) n held few us long ∙ ap some (ap (λ (l : List ℕ). getD l (h .held) 0) u ∙ getD-set-same vs (h .held) 0 0 (rw l room))
+          get-held g (h .names .held) n held few us long ∙ ap some (ap (λ (l : List ℕ). getD l (h .names .held) 0) u ∙ getD-set-same vs (h .names .held) 0 0 (rw l room))
 
-      number-same : or-zero (get n p) ≡ or-zero (get n (pairs (names g) us))
+      number-same : or-zero (get n p) ≡ or-zero (get n (pairs (names (g .names)) us))
       number-same = ap or-zero none-yet ∙ sym (ap or-zero zero-there)
 
-      raised-without : insert n 1 p ≡ pairs (names h ++ (n ∷ [])) (set vs (h .held) 1)
+      raised-without : insert n 1 p ≡ pairs (names (h .names) ++ (n ∷ [])) (set vs (h .names .held) 1)
       raised-without =
           ap (insert n 1) q
-          ∙ pairs-insert-new n 1 (names h) vs free (rw (length-names h, l) room)
-          ∙ ap (λ (i : ℕ). pairs (names h ++ (n ∷ [])) (set vs i 1)) (length-names h)
+          ∙ pairs-insert-new n 1 (names (h .names)) vs free (rw (length-names h, l) room)
+          ∙ ap (λ (i : ℕ). pairs (names (h .names) ++ (n ∷ [])) (set vs i 1)) (length-names h)
 
-      raised-with : insert n 1 (pairs (names g) us) ≡ pairs (names h ++ (n ∷ [])) (set vs (h .held) 1)
+      raised-with : insert n 1 (pairs (names (g .names)) us) ≡ pairs (names (h .names) ++ (n ∷ [])) (set vs (h .names .held) 1)
       raised-with =
-          insert-held g (h .held) n held few us long 1
-          ∙ ap₂ (λ (l : List (List ℕ)) (x : List ℕ). pairs l (set x (h .held) 1)) news u
-          ∙ ap (pairs (names h ++ (n ∷ []))) (set-set vs (h .held) 0 1)
+          insert-held g (h .names .held) n held few us long 1
+          ∙ ap₂ (λ (l : List (List ℕ)) (x : List ℕ). pairs l (set x (h .names .held) 1)) news u
+          ∙ ap (pairs (names (h .names) ++ (n ∷ []))) (set-set vs (h .names .held) 0 1)
 
-      raised-same : insert n (or-zero (get n p) + 1) p ≡ insert n (or-zero (get n (pairs (names g) us)) + 1) (pairs (names g) us)
+      raised-same : insert n (or-zero (get n p) + 1) p ≡ insert n (or-zero (get n (pairs (names (g .names)) us)) + 1) (pairs (names (g .names)) us)
       raised-same =
           ap (λ (o : Option ℕ). insert n (or-zero o + 1) p) none-yet
           ∙ raised-without
-          ∙ sym (ap (λ (o : Option ℕ). insert n (or-zero o + 1) (pairs (names g) us)) zero-there ∙ raised-with)
+          ∙ sym (ap (λ (o : Option ℕ). insert n (or-zero o + 1) (pairs (names (g .names)) us)) zero-there ∙ raised-with)
 
-    counts-are : g .counts ≡ set (h .counts) (h .held) 0
+    counts-are : g .counts ≡ set (h .counts) (h .names .held) 0
     unfolding register
     counts-are = refl
 
-    threads-are : g .threads ≡ set (h .threads) (h .held) 0
+    threads-are : g .threads ≡ set (h .threads) (h .names .held) 0
     unfolding register
     threads-are = refl
 
@@ -130,15 +130,15 @@ module _ (m : Machine) (c : Core) (sound : SoundHeader m) (agree : Agree m) (s :
         }
 
   -- a name, held or new
-  pub named : (isNew h n && eqb (h .held) 16) ≡ false → Named m c n (registered h n)
-  named free = go (isNew h n) refl free
+  pub named : (isNew (h .names) n && eqb (h .names .held) 16) ≡ false → Named m c n (registered h n)
+  named free = go (isNew (h .names) n) refl free
     where
-      go : (b : Bool) → isNew h n ≡ b → (b && eqb (h .held) 16) ≡ false → Named m c n (cond b (register h n) h)
+      go : (b : Bool) → isNew (h .names) n ≡ b → (b && eqb (h .names .held) 16) ≡ false → Named m c n (cond b (register h n) h)
       go false e free = record { queue = c .process-queue; same = held-same; pushes = λ p. refl }
         where
           held-same : Same (holding (m .core) h m) c
           held-same = s
       go true e free =
-          let k : h .held ≡ 16 → ⊥ = eqb-false _ _ free in
-          let l : h .held < 16 = omega (arith, sound .few) in
+          let k : h .names .held ≡ 16 → ⊥ = eqb-false _ _ free in
+          let l : h .names .held < 16 = omega (arith, sound .few) in
           record { queue = queue (eqb-true _ _ e) l; same = new-same (eqb-true _ _ e) l; pushes = new-pushes (eqb-true _ _ e) l }

@@ -9,11 +9,11 @@ use native.Mathlib.Omega.{arith}
 use lib.Dec.{eqb}
 use lib.IntN.{pos}
 use lib.ListN.{length, getD, set}
-use Rattle.load_file.specs.declared.Cell.{Cell}
-use Rattle.load_file.specs.Offset.{ahead}
-use Rattle.load_file.specs.Cells.{unpacked}
-use Rattle.load_file.specs.Modifier.{I}
-use Rattle.load_file.proofs.Soundness.{Sound}
+use Rattle.cell.specs.declared.Cell.{Cell}
+use Rattle.offset.specs.Offset.{ahead}
+use Rattle.cell.specs.Cells.{unpacked}
+use Rattle.types.specs.Modifier.{I}
+use Rattle.cell.proofs.Soundness.{Sound}
 use Rattle.machine.specs.Execution.{Ending, dat, divisor, Next, ends, goes, splits, Effect, Scene, Met, stored}
 use Rattle.machine.proofs.Pointers.{SoundCore, fields-at}
 use Rattle.machine.proofs.Execution.{row}
@@ -78,7 +78,7 @@ module _ (its : Registers) where
   executor = record { core = map wordOf (its .core); program-counter = its .pc; a-value = instructionOf (its .ra); b-value = instructionOf (its .rb); a-ptr = its .jump; b-ptr = its .target }
 
   abbrev pub scene : Scene
-  scene = record { size = its .size; modifier = its .modifier; pc = its .pc; jump = its .jump; ra = its .ra; rb = its .rb; live = live }
+  scene = record { size = its .size; modifier = its .modifier; pc = its .pc; jump = its .jump; ra = its .ra; rb = its .rb; live = live; target = live }
 
   -- the target set to what is stored, or to what it was
   pub record Does (x : Opcodes.Execution) (f : Effect) : Type 0 where

@@ -9,9 +9,9 @@ use borrow.Author.Tests.{eqb-true, lt-ltb}
 use Rattle.laws.proofs.Tests.{neither}
 use Rattle.machine.specs.declared.Ceiling.{Ceiling}
 use Rattle.machine.specs.declared.Ceiling.the-variants.{Unsaid, Steps}
-use Rattle.machine.specs.State.{Machine}
+use Rattle.machine.specs.State.{Machine, joined}
 use Rattle.machine.specs.Step.{step}
-use Rattle.machine.specs.Run.{joined, plays, ceilingOf, run}
+use Rattle.machine.specs.Run.{plays, ceilingOf, run}
 use Rattle.machine.proofs.Soundness.{header-sound}
 use Rattle.machine.proofs.Step.{step-executed}
 use Rattle.machine.proofs.Run.{run-plays}

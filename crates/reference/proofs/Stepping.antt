@@ -17,7 +17,7 @@ use Rattle.machine.specs.State.{Machine, Outcome, accepted, refusal, first}
 use Rattle.machine.specs.Queue.{entry, slots, entries, front, nameOf, full, pop, push, started}
 use Rattle.machine.specs.Execution.{Ending, dat, divisor, Next, ends, goes, splits}
 use Rattle.machine.specs.Step.{popped, pc, instruction, effect, coreAfter, counted, queued, nextTold, executed, stepChecks, step}
-use Rattle.machine.proofs.Checks.{passes, only, other, others, without}
+use Rattle.machine.proofs.Checks.{passed, only, other, others, without}
 use Rattle.machine.proofs.Names.{Held}
 use Rattle.machine.proofs.Soundness.{SoundHeader, size-small, push-sound}
 use Rattle.machine.proofs.Bounds.{thread-most}
@@ -62,15 +62,15 @@ module _ (m : Machine) (c : Core) (s : SoundMachine m) (same : Same m c) (e : fi
   r : Ready m
   r = ready m (s .header .shape) e
 
-  pc-in : pc m < h .size
+  pc-in : pc m < h .rules .size
   pc-in = r .entry .place
 
   opcode-in : instruction m .opcode < 17
   opcode-in =
-      not-last (instruction m .opcode) (fields-at (h .size) (m .core) (s .core) (pc m) pc-in .opcode) (passes (stepChecks m) e .1 .1 .1 .1 .1 .0)
+      not-last (instruction m .opcode) (fields-at (h .rules .size) (m .core) (s .core) (pc m) pc-in .opcode) (passed (stepChecks m) e .1 .1 .1 .1 .1 .0)
 
   abbrev execution : Execution
-  execution = execute (h .size) (map wordOf (m .core)) (pc m)
+  execution = execute (h .rules .size) (map wordOf (m .core)) (pc m)
 
   -- popped, the step counted, the instruction executed
   abbrev rust : Core
@@ -80,7 +80,7 @@ module _ (m : Machine) (c : Core) (s : SoundMachine m) (same : Same m c) (e : fi
   unfolding coreAfter effect
   counting-same = counted-same m c same r (coreAfter m) (execution .core) (execute-is m s pc-in opcode-in .core)
 
-  step-is : Rust.step c ≡ after (h .size) (execution .result) (entryOf h (front m)) rust
+  step-is : Rust.step c ≡ after (h .rules .size) (execution .result) (entryOf h (front m)) rust
   unfolding Rust.step
   step-is =
       ap (stepped c) (pop-is m c same r)
@@ -98,7 +98,7 @@ module _ (m : Machine) (c : Core) (s : SoundMachine m) (same : Same m c) (e : fi
   counting-held : Held (counting m .header) (popped m .name) t
   counting-held = counted-held (coreAfter m) (pop m) (pop-held m t (r .header) (front-held m r) (s .agree) (r .some) (r .entry .count))
 
-  place-fits : (p : ℕ) → p < h .size → p < 2 ^ 16
+  place-fits : (p : ℕ) → p < h .rules .size → p < 2 ^ 16
   place-fits p l = omega (arith, size-small m (s .header))
 
   -- the next place, with the thread number of the popped entry
@@ -111,16 +111,16 @@ module _ (m : Machine) (c : Core) (s : SoundMachine m) (same : Same m c) (e : fi
   abbrev rust-one : ℕ → Core
   rust-one x = with-queue rust (Process.push t x (some (popped m .thread)) (left m c same r))
 
-  one-same : (p : ℕ) → p < h .size → Same (one p) (rust-one p)
+  one-same : (p : ℕ) → p < h .rules .size → Same (one p) (rust-one p)
   one-same p l =
       push-same (counting m) rust counting-same (counting-sound m r) (next p) t counting-held (place-fits p l) (let f : popped m .thread < 2 ^ 32 = omega arith in f)
       (counting-room m r)
 
   -- and a child, where the queue was not full
-  room-left : (p : ℕ) → full m ≡ false → one p .header .length < length (one p .queue)
+  room-left : (p : ℕ) → full m (popped m .name) ≡ false → one p .header .ring .length < length (one p .queue)
   unfolding push counted pop
   room-left p f =
-      rw (length-set (m .queue) _ _) (let a : h .length < length (m .queue) = leb-false _ _ f in omega (arith, r .some))
+      rw (length-set (m .queue) _ _) (let a : h .ring .length < length (m .queue) = leb-false _ _ f in omega (arith, r .some))
 
   one-sound : (p : ℕ) → SoundHeader (one p)
   one-sound p = push-sound (counting m) (counting-sound m r) (next p) (counting-held .below) (counting-room m r)
@@ -129,7 +129,7 @@ module _ (m : Machine) (c : Core) (s : SoundMachine m) (same : Same m c) (e : fi
   unfolding push counted pop
   one-thread p = let l = thread-most h (popped m .name) (s .numbers) in omega arith
 
-  two-same : (p y : ℕ) → p < h .size → y < h .size → full m ≡ false
+  two-same : (p y : ℕ) → p < h .rules .size → y < h .rules .size → full m (popped m .name) ≡ false
       → Same (started y (popped m .name) (one p)) (with-queue rust (Process.push t y none (rust-one p .process-queue)))
   two-same p y l k f =
       started-same (one p) (rust-one p) (one-same p l) (one-sound p) y (popped m .name) t
@@ -149,9 +149,9 @@ module _ (m : Machine) (c : Core) (s : SoundMachine m) (same : Same m c) (e : fi
       record { machine = queued x (popped m) (counting m) .machine; number = told .number; value = told .value; writes = 0; steps = 1; pushes = 0 }
 
   abbrev returnedOf : Result → Returned
-  returnedOf x = after (h .size) x (entryOf h (front m)) rust
+  returnedOf x = after (h .rules .size) x (entryOf h (front m)) rust
 
-  finish : (x : Next) (y : Result) → Matches (h .size) (pc m) x y → Places (λ p. p < h .size) x → (isSplit x && full m) ≡ false
+  finish : (x : Next) (y : Result) → Matches (h .rules .size) (pc m) x y → Places (λ p. p < h .rules .size) x → (isSplit x && full m (popped m .name)) ≡ false
       → Agreed (outcomeOf x) (returnedOf y)
   finish (ends dat) y q l f =
       rw q (record { answer = ap (λ (o : Option ℕ). unless-alive o (ExecuteDat (pc m))) count-is ∙ alive dat (pc m) count; same = counting-same })
@@ -159,7 +159,7 @@ module _ (m : Machine) (c : Core) (s : SoundMachine m) (same : Same m c) (e : fi
       rw q (record { answer = ap (λ (o : Option ℕ). unless-alive o DivideByZero) count-is ∙ alive divisor (pc m) count; same = counting-same })
   finish (goes p) y q l f = rw (q .1) (record { answer = refl; same = rw (q .2) (one-same p l) })
   finish (splits p y) z q l f =
-      rw (q .1, lt-leb (length (one p .queue)) (one p .header .length) (room-left p f))
+      rw (q .1, lt-leb (length (one p .queue)) (one p .header .ring .length) (room-left p f))
       (record { answer = refl; same = rw (q .2, q .3) (two-same p y (l .0) (l .1) f) })
 
   pub executed-agrees : meetsStep m ≡ false → Agreed (executed m) (Rust.step c)
@@ -174,18 +174,18 @@ module _ (m : Machine) (n v : ℕ) (e : first (stepChecks m) ≡ refusal n v) (a
   is-seven : n ≡ 7
   is-seven = only answered 7 (stepChecks m) refl n v e a
 
-  is-empty : m .header .length ≡ 0
-  is-empty = go (eqb (m .header .length) 0) refl
+  is-empty : m .header .ring .length ≡ 0
+  is-empty = go (eqb (m .header .ring .length) 0) refl
     where
-      go : (b : Bool) → eqb (m .header .length) 0 ≡ b → m .header .length ≡ 0
+      go : (b : Bool) → eqb (m .header .ring .length) 0 ≡ b → m .header .ring .length ≡ 0
       go true q = eqb-true _ _ q
       go false q = absurd (without 7 (stepChecks m) (inr (other tt) and λ x. inl q and λ y. others 7 (drop 2 (stepChecks m)) refl) n v e is-seven)
 
-nothing-popped : (m : Machine) (c : Core) → Same m c → m .header .length ≡ 0 → Rust.step c ≡ record { core = c; answer = Err NoRemainingProcesses }
+nothing-popped : (m : Machine) (c : Core) → Same m c → m .header .ring .length ≡ 0 → Rust.step c ≡ record { core = c; answer = Err NoRemainingProcesses }
 unfolding Rust.step entries
 nothing-popped m c s e =
     ap (λ (q : List Process.Entry). stepped c (Process.pop-from q (c .process-queue)))
-    (s .queue ∙ ap (λ (n : ℕ). map (entryOf (m .header)) (slots (m .queue) (m .header .head) n)) e)
+    (s .queue ∙ ap (λ (n : ℕ). map (entryOf (m .header)) (slots (m .queue) (m .header .ring .head) n)) e)
 
 pub step-agrees : (m : Machine) (c : Core) → SoundMachine m → Same m c → answered (step m .number) ≡ true → meetsStep m ≡ false
     → Agreed (step m) (Rust.step c)

@@ -5,12 +5,12 @@ use mathlib.Core.Path.{_≡_, sym, ap, ap₂, subst, _∙_}
 use mathlib.Core.List.{List, map}
 use native.Mathlib.Omega.{arith}
 use lib.ListN.{length}
-use Rattle.load_file.specs.Types.{A, B}
-use Rattle.load_file.proofs.Soundness.{Sound}
+use Rattle.types.specs.Types.{A, B}
+use Rattle.cell.proofs.Soundness.{Sound}
 use Rattle.machine.specs.State.{Machine}
 use Rattle.machine.specs.Pointers.{operand}
 use Rattle.machine.specs.Instruction.{fetched}
-use Rattle.machine.specs.Step.{pc, instruction, operandA, operandB, effect}
+use Rattle.machine.specs.Step.{pc, site, instruction, operandA, operandB, effect}
 use Rattle.machine.proofs.Soundness.{size-positive, size-most}
 use Rattle.machine.proofs.Pointers.{fields-at, SoundOperand}
 use Rattle.machine.proofs.Step.{operand-a-sound, operand-b-sound}
@@ -24,9 +24,9 @@ use Rattle.reference.proofs.Cells.{get-word}
 use Rattle.reference.proofs.Operands.{seen, operand-codes, evaluate-is}
 use Rattle.reference.proofs.Executions.{Done, executes}
 
-module _ (m : Machine) (s : SoundMachine m) (pc-in : pc m < m .header .size) (opcode-in : instruction m .opcode < 17) where
+module _ (m : Machine) (s : SoundMachine m) (pc-in : pc m < m .header .rules .size) (opcode-in : instruction m .opcode < 17) where
   abbrev size : ℕ
-  size = m .header .size
+  size = m .header .rules .size
 
   abbrev instructions : List Instruction
   instructions = map wordOf (m .core)
@@ -52,7 +52,7 @@ module _ (m : Machine) (s : SoundMachine m) (pc-in : pc m < m .header .size) (op
   unfolding evaluate-b
   b-is =
       evaluate-is size small (operandA m .core) (a-sound .core) B (pc m) pc-in
-      ∙ ap (λ (k : ℕ). seen (operand size (operandA m .core) (pc m) k (fetched (operandA m .core) (pc m) .b .0)))
+      ∙ ap (λ (k : ℕ). seen (operand (site m) (operandA m .core) k (fetched (operandA m .core) (pc m) .b .0)))
       (operand-codes size small (m .core) (s .core) (size-positive m (s .header)) (pc m) _ _ (pc m) .b-mode)
 
   abbrev executed : Executor
@@ -62,8 +62,8 @@ module _ (m : Machine) (s : SoundMachine m) (pc-in : pc m < m .header .size) (op
         program-counter = pc m;
         a-value = instructionOf (operandA m .register);
         b-value = instructionOf (operandB m .register);
-        a-ptr = operandA m .pointer;
-        b-ptr = operandB m .pointer;
+        a-ptr = operandA m .read;
+        b-ptr = operandB m .read;
       }
 
   executor-is : executor size instructions (pc m) ≡ executed
@@ -81,7 +81,7 @@ module _ (m : Machine) (s : SoundMachine m) (pc-in : pc m < m .header .size) (op
         program-counter = pc m;
         a-value = instructionOf (operandA m .register);
         b-value = b .value;
-        a-ptr = operandA m .pointer;
+        a-ptr = operandA m .read;
         b-ptr = b .ptr;
       }) b-is
 
@@ -92,25 +92,25 @@ module _ (m : Machine) (s : SoundMachine m) (pc-in : pc m < m .header .size) (op
       ∙ ap modifierOf (operand-codes size small (operandA m .core) (a-sound .core) (size-positive m (s .header)) (pc m) _ _ (pc m) .modifier
       ∙ operand-codes size small (m .core) (s .core) (size-positive m (s .header)) (pc m) _ _ (pc m) .modifier)
 
-  pub execute-is : Done size (pc m) (operandB m .pointer) (operandB m .core) (execute size instructions (pc m)) (effect m)
-  unfolding execute effect
+  pub execute-is : Done size (pc m) (operandB m .write) (operandB m .core) (execute size instructions (pc m)) (effect m)
+  unfolding execute effect operand
   execute-is =
-      subst (λ (x : Execution). Done size (pc m) (operandB m .pointer) (operandB m .core) x (effect m))
+      subst (λ (x : Execution). Done size (pc m) (operandB m .write) (operandB m .core) x (effect m))
       (sym (ap₂ (λ (i : Instruction) (e : Executor). by-opcode (i .opcode) size (pc m) e) (get-word (m .core) (pc m) (rw (s .core .length) pc-in)) executor-is))
       (executes (record {
         size = size;
         core = operandB m .core;
         pc = pc m;
-        jump = operandA m .pointer;
-        target = operandB m .pointer;
+        jump = operandA m .read;
+        target = operandB m .write;
         modifier = instruction m .modifier;
         ra = operandA m .register;
         rb = operandB m .register;
         small = small;
         sound = b-sound .core;
         pc-in = pc-in;
-        jump-in = a-sound .pointer;
-        target-in = b-sound .pointer;
+        jump-in = a-sound .read;
+        target-in = b-sound .write;
         modifier-in = omega (arith, cell .modifier);
         ra-in = a-sound .register;
         rb-in = b-sound .register;

@@ -6,8 +6,8 @@ use Prim.Native.Nat.{ℕ, _/_, _%_, _^_}
 use mathlib.Core.Bool.{Bool, _||_}
 use lib.Dec.{eqb, leb}
 use lib.IntN.{ℤ, pos, _+ℤ_, _-ℤ_}
-use Rattle.load_file.specs.Offset.{euclid}
-use Rattle.program.specs.Bytes.{signed}
+use Rattle.offset.specs.Offset.{euclid}
+use Rattle.encoding.specs.Bytes.{signed}
 
 -- new and set_value: the Euclidean remainder by core_size
 abbrev pub offset : ℕ → ℤ → ℕ

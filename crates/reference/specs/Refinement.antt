@@ -9,11 +9,12 @@ use lib.Dec.{eqb}
 use Rattle.laws.specs.Lists.{among}
 use Rattle.machine.specs.declared.Ceiling.{Ceiling}
 use Rattle.machine.specs.declared.Ceiling.the-variants.{Unsaid, Steps}
+use Rattle.machine.specs.declared.Rules.{Rules}
 use Rattle.machine.specs.State.{Machine}
 use Rattle.machine.specs.Queue.{full}
-use Rattle.machine.specs.Load.{fresh}
+use Rattle.machine.specs.Fresh.{fresh}
 use Rattle.machine.specs.Execution.{Next, ends, goes, splits}
-use Rattle.machine.specs.Step.{effect, step}
+use Rattle.machine.specs.Step.{popped, effect, step}
 use Rattle.machine.specs.Run.{ceilingOf}
 use Rattle.account.specs.Calls.{Call, Load, Step, Run, outcome}
 use Rattle.reference.specs.Process.{NoRemainingProcesses, ExecuteDat, DivideByZero}
@@ -34,7 +35,7 @@ isSplit (goes p) = false
 isSplit (splits p c) = true
 
 abbrev pub meetsStep : Machine → Bool
-meetsStep m = isSplit (effect m .next) && full m
+meetsStep m = isSplit (effect m .next) && full m (popped m .name)
 
 abbrev pub meetsPlays : ℕ → Machine → Bool
 meetsPlays zero m = false
@@ -84,5 +85,5 @@ Agrees (x ∷ xs) m c =
 -- THE STATEMENT. Where fresh makes a machine, the Rust makes a core of that size, and they agree over every list of calls in the domain
 abbrev pub Refinement : Type 0
 Refinement =
-    (size : ℕ) (core queue : List ℕ) → fresh size core queue .number ≡ 0
-    → (c : Core) × (new size ≡ some c) × ((calls : List Call) → Domain calls (fresh size core queue .machine) → Agrees calls (fresh size core queue .machine) c)
+    (rules : Rules) (core queue : List ℕ) → fresh rules core queue .number ≡ 0
+    → (c : Core) × (new (rules .size) ≡ some c) × ((calls : List Call) → Domain calls (fresh rules core queue .machine) → Agrees calls (fresh rules core queue .machine) c)

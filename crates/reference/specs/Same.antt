@@ -9,10 +9,10 @@ use mathlib.Core.Option.{Option, none, some}
 use lib.Dec.{eqb}
 use lib.IntN.{pos}
 use lib.ListN.{getD}
-use Rattle.load_file.specs.declared.Cell.{Cell}
-use Rattle.load_file.specs.Cells.{unpacked}
-use Rattle.load_file.specs.Defaults.{unnamed}
-use Rattle.program.specs.Bytes.{part, value, signed}
+use Rattle.cell.specs.declared.Cell.{Cell}
+use Rattle.cell.specs.Cells.{unpacked}
+use Rattle.types.specs.Defaults.{unnamed}
+use Rattle.encoding.specs.Bytes.{part, value, signed}
 use Rattle.program.specs.Program as Program
 use Rattle.program.specs.Program.{instructions, split}
 use Rattle.machine.specs.declared.Header.{Header}
@@ -57,7 +57,7 @@ wordOf w = instructionOf (unpacked w)
 
 abbrev pub entryOf : Header → ℕ → Entry
 entryOf h w =
-    record { name = getD (names h) (unpackedEntry w .name) []; thread = unpackedEntry w .thread; offset = unpackedEntry w .place .0 }
+    record { name = getD (names (h .names)) (unpackedEntry w .name) []; thread = unpackedEntry w .thread; offset = unpackedEntry w .place .0 }
 
 -- a number for each name
 abbrev pub pairs : List (List ℕ) → List ℕ → List Pair
@@ -68,8 +68,8 @@ pairs (n ∷ ns) (v ∷ vs) = record { key = n; value = v } ∷ pairs ns vs
 pub record Same (m : Machine) (c : Core) : Type 0 where
   pub instructions : c .instructions ≡ map wordOf (m .core)
   pub queue : c .process-queue .queue ≡ map (entryOf (m .header)) (entries m)
-  pub processes : c .process-queue .processes ≡ pairs (names (m .header)) (m .header .counts)
-  pub next-thread-id : c .process-queue .next-thread-id ≡ pairs (names (m .header)) (m .header .threads)
+  pub processes : c .process-queue .processes ≡ pairs (names (m .header .names)) (m .header .counts)
+  pub next-thread-id : c .process-queue .next-thread-id ≡ pairs (names (m .header .names)) (m .header .threads)
   pub steps-taken : c .steps-taken ≡ m .header .steps
 
 -- an instruction of a body: its codes by their names, its modifier or the Rust's default (F where there is none: 01 answers 4), its numbers as they are

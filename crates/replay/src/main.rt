@@ -11,8 +11,9 @@ use cycle::run;
 use cycle::step;
 use machine::Ceiling;
 use machine::Header;
+use machine::Rules;
 use sim::fresh;
-use sim::warrior::load;
+use warrior::load;
 
 mod reading;
 mod writing;
@@ -112,7 +113,7 @@ fn battle(input: &[u8], at: usize, core: &mut [u64], queue: &mut [u64]) -> usize
         return input.len();
     }
     let lent = &mut core[..cells];
-    let o = fresh(size, lent, queue);
+    let o = fresh(Rules { size }, lent, queue);
     let h = o.header;
     calls(input, after(at, 4), count, lent, queue, h)
 }

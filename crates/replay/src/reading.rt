@@ -7,7 +7,7 @@ fn wide(b: u8) -> u16 {
 }
 
 // The byte at a position.
-pub fn byte(input: &[u8], at: usize) -> u8 {
+pub(crate) fn byte(input: &[u8], at: usize) -> u8 {
     if at < input.len() {
         return input[at];
     }
@@ -15,24 +15,24 @@ pub fn byte(input: &[u8], at: usize) -> u8 {
 }
 
 // The position k bytes on.
-pub fn after(at: usize, k: usize) -> usize {
+pub(crate) fn after(at: usize, k: usize) -> usize {
     wrapping_add_usize(at, k)
 }
 
 // Two bytes, little-endian.
-pub fn two(input: &[u8], at: usize) -> u16 {
+pub(crate) fn two(input: &[u8], at: usize) -> u16 {
     wide(byte(input, at)) | wide(byte(input, after(at, 1))) << 8
 }
 
 // Four bytes, little-endian.
-pub fn four(input: &[u8], at: usize) -> u32 {
+pub(crate) fn four(input: &[u8], at: usize) -> u32 {
     let low = two(input, at) as u32;
     let high = two(input, after(at, 2)) as u32;
     low | high << 16
 }
 
 // The part from a position on that has k bytes.
-pub fn part(input: &[u8], at: usize, k: usize) -> &[u8] {
+pub(crate) fn part(input: &[u8], at: usize, k: usize) -> &[u8] {
     if at > input.len() {
         return &input[..0];
     }

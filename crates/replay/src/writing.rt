@@ -76,16 +76,16 @@ fn names<'a>(held: usize, counts: &'a [u32; 16], threads: &'a [u32; 16]) {
 }
 
 // Writes what a call left.
-pub fn tell(core: &[u64], queue: &[u64], h: Header, answer: Answer) {
+pub(crate) fn tell(core: &[u64], queue: &[u64], h: Header, answer: Answer) {
     write(number(answer) as u64, b' ');
     write(value(answer) as u64, b' ');
     write(h.steps as u64, b' ');
-    write(h.length as u64, b' ');
+    write(h.ring.length as u64, b' ');
     write(
-        entries(queue, h.head as usize, h.length as usize) as u64,
+        entries(queue, h.ring.head as usize, h.ring.length as usize) as u64,
         b' ',
     );
     io::print_decimal(1, digest(0, core) as u64);
-    names(h.held as usize, &h.counts, &h.threads);
+    names(h.names.held as usize, &h.counts, &h.threads);
     io::write_all(1, b"\n");
 }

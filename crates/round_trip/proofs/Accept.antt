@@ -11,21 +11,21 @@ use lib.ListN.{length, getD}
 use borrow.Author.Tests.{leb-true, leb-false, ltb-false, le-leb, lt-leb, le-ltb, not-false}
 use Rattle.answer.specs.Numbers.{Told, gives}
 use Rattle.laws.proofs.Tests.{both, neither}
-use Rattle.program.specs.Bytes.{part}
+use Rattle.encoding.specs.Bytes.{part}
 use Rattle.program.specs.Program.{instructions, lowestFault}
-use Rattle.program.specs.Metadata.{validByte, validName}
+use Rattle.metadata.specs.Metadata.{validByte, validName}
 use Rattle.program.proofs.Program.{lawful-whole}
 use Rattle.machine.specs.State.{Check, Verdict, accepted, refusal, first}
 use Rattle.machine.specs.Soundness.{validSize}
-use Rattle.machine.proofs.Checks.{passes, Numbers, number-of}
-use Rattle.match_file.specs.declared.fault.Fault.the-variants.{Nowhere}
-use Rattle.match_file.specs.Format.{Bytes, number, Warrior, file, Fits, AllFit}
-use Rattle.match_file.specs.Faults.{linesFault}
+use Rattle.machine.proofs.Checks.{passed as rows-passed, Numbers, number-of}
+use Rattle.match_format.specs.declared.Fault.the-variants.{Nowhere}
+use Rattle.match_format.specs.Format.{Bytes, number, Warrior, file, Fits, AllFit}
+use Rattle.match_format.specs.Faults.{linesFault}
 use Rattle.match_file.specs.Reading.{warriorsAt}
-use Rattle.match_file.proofs.Parts.{length-part}
-use Rattle.match_file.proofs.Numbers.{number-lt}
-use Rattle.match_file.proofs.Chains.{all-right}
-use Rattle.match_file.proofs.Whole.{first-line, later-lines, LineAt, line-at}
+use Rattle.match_format.proofs.Parts.{length-part}
+use Rattle.match_format.proofs.Numbers.{number-lt}
+use Rattle.match_format.proofs.Chains.{all-right}
+use Rattle.match_format.proofs.Whole.{first-line, later-lines, LineAt, line-at}
 use Rattle.match_file.proofs.Warriors.{length-body, count-is}
 use Rattle.match_write.specs.Writing.{settle, checks}
 
@@ -59,7 +59,7 @@ module _ (size : ℕ) (ws : List Warrior) (w : Warrior) (room : ℕ) where
   module _ (e : first (checks size ws w room) ≡ accepted) where
     pub passed : Passed size w
     passed =
-        let p = passes (checks size ws w room) e in
+        let p = rows-passed (checks size ws w room) e in
         let m = both (leb 1 size) (leb size 46341) (not-false (validSize size) (p .0)) in
         let n = neither (not (validName (w .name))) (leb size (w .place)) (p .1 .1 .1 .0) in
         record {
@@ -73,7 +73,7 @@ module _ (size : ℕ) (ws : List Warrior) (w : Warrior) (room : ℕ) where
 
     pub room-for : (length ws < 16) × (length (file size (ws ++ (w ∷ []))) ≤ room)
     room-for =
-        let n = neither (leb 16 (length ws)) (ltb room (length (file size (ws ++ (w ∷ []))))) (passes (checks size ws w room) e .1 .1 .1 .1 .0) in
+        let n = neither (leb 16 (length ws)) (ltb room (length (file size (ws ++ (w ∷ []))))) (rows-passed (checks size ws w room) e .1 .1 .1 .1 .0) in
         (leb-false 16 (length ws) (n .0), ltb-false room (length (file size (ws ++ (w ∷ [])))) (n .1))
 
   pub accept : Passed size w → length ws < 16 → length (file size (ws ++ (w ∷ []))) ≤ room → first (checks size ws w room) ≡ accepted

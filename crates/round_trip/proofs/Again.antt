@@ -7,16 +7,16 @@ use native.Mathlib.Nat.{add-zero}
 use native.Mathlib.Omega.{arith}
 use lib.ListN.{length, getD, drop, replicate, take-append-drop}
 use lib.Seq.{drop-drop, drop-cons}
-use Rattle.program.specs.Bytes.{part, spelled}
-use Rattle.match_file.specs.declared.fault.Fault.the-variants.{Nowhere}
-use Rattle.match_file.specs.Format.{Bytes, number, line, lines, bodies, file}
-use Rattle.match_file.specs.Faults.{within, linesFault, fault}
+use Rattle.encoding.specs.Bytes.{part, spelled}
+use Rattle.match_format.specs.declared.Fault.the-variants.{Nowhere}
+use Rattle.match_format.specs.Format.{Bytes, number, line, lines, bodies, file}
+use Rattle.match_format.specs.Faults.{within, linesFault, fault}
 use Rattle.match_file.specs.Reading.{sizeIn, warriorsAt, warriorsOf}
-use Rattle.match_file.proofs.Parts.{length-part, part-add, part-first}
-use Rattle.match_file.proofs.Numbers.{spelled-number}
-use Rattle.match_file.proofs.Chains.{all-right, all-zero}
-use Rattle.match_file.proofs.Lines.{LineOk}
-use Rattle.match_file.proofs.Whole.{head-ok, first-line, later-lines, LineAt, line-at}
+use Rattle.match_format.proofs.Parts.{length-part, part-add, part-first}
+use Rattle.match_format.proofs.Numbers.{spelled-number}
+use Rattle.match_format.proofs.Chains.{all-right, all-zero}
+use Rattle.match_format.proofs.Lines.{LineOk}
+use Rattle.match_format.proofs.Whole.{head-ok, first-line, later-lines, LineAt, line-at}
 use Rattle.match_file.proofs.Warriors.{length-warriors, length-body, count-is, bodies-are}
 
 module _ (f : List ℕ) (b : Bytes f) where

@@ -7,20 +7,20 @@ use native.Mathlib.Nat.{add-zero}
 use native.Mathlib.Omega.{arith}
 use lib.ListN.{length, getD, take, drop, replicate, length-append, length-replicate, length-drop}
 use lib.Seq.{drop-drop, getD-drop, take-at, drop-at, drop-append-add}
-use Rattle.program.specs.Bytes.{part, value, spelled}
+use Rattle.encoding.specs.Bytes.{part, value, spelled}
 use Rattle.program.specs.Program.{instructions}
-use Rattle.program.specs.Metadata.{validByte}
-use Rattle.program.proofs.Names.{valid-name}
-use Rattle.match_file.specs.declared.fault.Fault.{Fault}
-use Rattle.match_file.specs.declared.fault.Fault.the-variants.{Nowhere}
-use Rattle.match_file.specs.Format.{number, Warrior, line, lines, bodies, file, Fits, AllFit}
-use Rattle.match_file.specs.Faults.{_else_, within, linesFault, fault}
+use Rattle.metadata.specs.Metadata.{validByte}
+use Rattle.metadata.proofs.Names.{valid-name}
+use Rattle.match_format.specs.declared.Fault.{Fault}
+use Rattle.match_format.specs.declared.Fault.the-variants.{Nowhere}
+use Rattle.match_format.specs.Format.{number, Warrior, line, lines, bodies, file, Fits, AllFit}
+use Rattle.match_format.specs.Faults.{_else_, within, linesFault, fault}
 use Rattle.match_file.specs.Reading.{sizeIn, warriorAt, warriorsAt, warriorsOf}
-use Rattle.match_file.proofs.Parts.{part-from, part-past}
-use Rattle.match_file.proofs.Numbers.{value-spelled}
-use Rattle.match_file.proofs.Chains.{right-all, zero-all}
-use Rattle.match_file.proofs.Lines.{LineOk, ok-line, lines-more, good-head, good-end}
-use Rattle.match_file.proofs.Format.{Short, lineOf, length-line, length-lines}
+use Rattle.match_format.proofs.Parts.{part-from, part-past}
+use Rattle.match_format.proofs.Numbers.{value-spelled}
+use Rattle.match_format.proofs.Chains.{right-all, zero-all}
+use Rattle.match_format.proofs.Lines.{LineOk, ok-line, lines-more, good-head, good-end}
+use Rattle.match_format.proofs.Format.{Short, lineOf, length-line, length-lines}
 
 pub all-short : (ws : List Warrior) → AllFit ws → Short ws
 all-short [] t = tt

@@ -8,11 +8,11 @@ use native.Mathlib.Omega.{arith}
 use lib.ListN.{length, drop}
 use lib.Seq.{take-at}
 use Rattle.machine.specs.State.{Verdict, accepted, first}
-use Rattle.machine.proofs.Checks.{passes}
-use Rattle.match_file.specs.declared.fault.Fault.{Fault}
-use Rattle.match_file.specs.declared.fault.Fault.the-variants.{Nowhere, At}
-use Rattle.match_file.specs.Format.{Warrior, file}
-use Rattle.match_file.specs.Faults.{fault}
+use Rattle.machine.proofs.Checks.{passed}
+use Rattle.match_format.specs.declared.Fault.{Fault}
+use Rattle.match_format.specs.declared.Fault.the-variants.{Nowhere, At}
+use Rattle.match_format.specs.Format.{Warrior, file}
+use Rattle.match_format.specs.Faults.{fault}
 use Rattle.match_file.specs.Reading.{sizeIn, warriorsOf}
 use Rattle.match_write.specs.Writing.{settle, malformed, checks, write, writeFirst, writeAdded}
 use Rattle.round_trip.specs.Calls.{made, Done}
@@ -48,7 +48,7 @@ module _ (f : List ℕ) (w : Warrior) (output : List ℕ) where
   added-accepted d =
       let cs = checks (sizeIn f) (warriorsOf f) w (length output) in
       let e = accepted-of (malformed (fault f) ∷ cs) (λ z. omega (arith, thirteen (fault f)), refusals (sizeIn f) (warriorsOf f) w (length output)) made-of output d in
-      let s : fault f ≡ Nowhere = no-fault (fault f) (passes (malformed (fault f) ∷ cs) e .0) in
+      let s : fault f ≡ Nowhere = no-fault (fault f) (passed (malformed (fault f) ∷ cs) e .0) in
       (s, sym (ap (λ (x : Fault). first (malformed x ∷ cs)) s) ∙ e)
 
   pub added-made : fault f ≡ Nowhere → first (checks (sizeIn f) (warriorsOf f) w (length output)) ≡ accepted → made (writeAdded f w output) ≡ made-of

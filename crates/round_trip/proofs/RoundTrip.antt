@@ -9,12 +9,12 @@ use lib.ListN.{length, getD, length-append}
 use borrow.Author.Tests.{lt-ltb}
 use Rattle.program.specs.Program.{instructions}
 use Rattle.machine.specs.State.{first}
-use Rattle.match_file.specs.Format.{Warrior, bodies, file, AllFit}
-use Rattle.match_file.specs.Faults.{fault}
+use Rattle.match_format.specs.Format.{Warrior, bodies, file, AllFit}
+use Rattle.match_format.specs.Faults.{fault}
 use Rattle.match_file.specs.Reading.{sizeIn, warriorsIn, warriorsOf, warriorOf}
-use Rattle.match_file.proofs.Numbers.{number-lt}
-use Rattle.match_file.proofs.Whole.{head-ok, line-at}
-use Rattle.match_file.proofs.Format.{length-file, bodies-append}
+use Rattle.match_format.proofs.Numbers.{number-lt}
+use Rattle.match_format.proofs.Whole.{head-ok, line-at}
+use Rattle.match_format.proofs.Format.{length-file, bodies-append}
 use Rattle.match_file.proofs.Warriors.{length-warriors, warrior-at, count-is}
 use Rattle.match_write.specs.Writing.{checks}
 use Rattle.round_trip.specs.Calls.{nobody, Accepts, AllAccepted, addAll, writeAll, Reads}

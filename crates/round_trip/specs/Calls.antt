@@ -6,9 +6,9 @@ use mathlib.Core.List.{List, [], _∷_}
 use lib.ListN.{length, getD, take}
 use Rattle.answer.specs.Numbers.{gives}
 use Rattle.program.specs.Program.{instructions}
-use Rattle.match_file.specs.declared.fault.Fault.the-variants.{Nowhere}
-use Rattle.match_file.specs.Format.{Warrior, warrior}
-use Rattle.match_file.specs.Faults.{fault, faultAt}
+use Rattle.match_format.specs.declared.Fault.the-variants.{Nowhere}
+use Rattle.match_format.specs.Format.{Warrior, warrior}
+use Rattle.match_format.specs.Faults.{fault, faultAt}
 use Rattle.match_file.specs.Reading.{warriorsIn, sizeIn, countOf, warriorOf}
 use Rattle.match_write.specs.Writing.{Given, writeFirst, writeAdded}
 

@@ -4,9 +4,9 @@ use Prim.Native.Nat.{ℕ, _≤_, _<_}
 use mathlib.Core.Path.{_≡_}
 use mathlib.Core.List.{List, [], _∷_, _++_}
 use lib.ListN.{length}
-use Rattle.match_file.specs.declared.fault.Fault.the-variants.{Nowhere}
-use Rattle.match_file.specs.Format.{Bytes, Warrior, file, AllFit, IsFile}
-use Rattle.match_file.specs.Faults.{fault}
+use Rattle.match_format.specs.declared.Fault.the-variants.{Nowhere}
+use Rattle.match_format.specs.Format.{Bytes, Warrior, file, AllFit, IsFile}
+use Rattle.match_format.specs.Faults.{fault}
 use Rattle.match_file.specs.Reading.{sizeIn, warriorsOf}
 use Rattle.match_write.specs.Writing.{writeFirst, writeAdded}
 use Rattle.round_trip.specs.Calls.{made, Done, AllAccepted, writeAll, Reads}

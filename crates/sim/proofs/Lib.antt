@@ -1,5 +1,4 @@
-pub mod Memories
+pub mod Filling
+pub mod Refusals
 pub mod FreshMachine
 pub mod CellReading
-pub mod Loading
-pub mod Occurring

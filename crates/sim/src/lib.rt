@@ -1,77 +1,81 @@
-// The core, its warriors and their queue: a fresh machine, load and cell reading (01, 'Queue and names', 'Load').
+// A fresh machine, and cell reading (01, 'Queue and names', 'What a call gives back').
 ghost use mathlib.Core.Path.{_≡_};
 ghost use Rattle.answer.specs.Numbers.{told, gives};
-ghost use Rattle.load_file.specs.Cells.{unpacked};
-ghost use Rattle.machine.specs.Load as spec;
+ghost use Rattle.cell.specs.Cells.{unpacked};
+ghost use Rattle.machine.specs.Fresh as spec;
 ghost use Rattle.machine.specs.Run as run;
-ghost use Rattle.process.specs.Parts.{machineOf};
-ghost use Rattle.sim.specs.Given.{given, givenBy};
+ghost use Rattle.lent.specs.Parts.{machineOf};
+ghost use Rattle.lent.specs.Given.{given, givenBy};
 use answer::Answer;
-use load_file::Cell;
-use load_file::fresh_cell;
-use load_file::offset::reduce;
-use load_file::sound;
-use load_file::unpack;
+use cell::Cell;
+use cell::fresh_cell;
+use cell::sound;
+use cell::unpack;
 use machine::Header;
-use process::soundness::sound_header;
+use machine::Outcome;
+use machine::Ring;
+use machine::Roster;
+use machine::Rules;
+use machine::limits::LARGEST_CORE;
+use machine::limits::MOST_ENTRIES;
+use offset::Absolute;
+use offset::add;
+use offset::reduce;
+use soundness::sound_header;
 
 mod memory;
-pub mod warrior;
 
-// An answer, its writes, and the header.
-pub struct Outcome {
-    pub answer: Answer,
-    pub writes: usize,
-    pub header: Header,
-}
-
-// A header with a size, and everything else 0.
-pub fn blank(size: u32) -> Header
-    ensures { λ r. ⌜ r ≡ spec.blank size ⌝ }
+// A header with these rules, and everything else 0.
+pub fn blank(rules: Rules) -> Header
+    ensures { λ r. ⌜ r ≡ spec.blank rules ⌝ }
 {
     Header {
-        size,
-        head: 0,
-        length: 0,
+        rules,
+        ring: Ring { head: 0, length: 0 },
         steps: 0,
-        held: 0,
-        names: [0; 512],
-        lengths: [0; 16],
+        names: Roster {
+            held: 0,
+            bytes: [0; 512],
+            lengths: [0; 16],
+        },
         counts: [0; 16],
         threads: [0; 16],
     }
 }
 
 // A refusal: nothing was written, and the header is the one given.
-fn refuse(answer: Answer, h: Header) -> Outcome
-    ensures { λ r. ⌜ (r .answer ≡ answer) × (r .writes ≡ 0) × (r .header ≡ h) ⌝ }
+pub fn refuse(answer: Answer, h: Header) -> Outcome
+    ensures { λ r. ⌜ (r .answer ≡ answer) × (r .writes ≡ 0) × (r .steps ≡ 0) × (r .header ≡ h) ⌝ }
 {
     Outcome {
         answer,
         writes: 0,
+        steps: 0,
         header: h,
     }
 }
 
 // A fresh machine: fresh cells, zeros in the queue memory, and its header.
-pub fn fresh(size: u32, core: &mut [u64], queue: &mut [u64]) -> Outcome
-    ensures { λ r. ⌜ given (r .answer) (r .writes) (now (core .exit)) (now (queue .exit)) (r .header)
-        ≡ givenBy (spec.fresh size (now (core .entry)) (now (queue .entry))) ⌝ }
+pub fn fresh(rules: Rules, core: &mut [u64], queue: &mut [u64]) -> Outcome
+    ensures { λ r. ⌜ given (told (r .answer)) (r .writes) (r .steps) (machineOf (now (core .exit)) (now (queue .exit)) (r .header))
+        ≡ givenBy (spec.fresh rules (now (core .entry)) (now (queue .entry))) ⌝ }
 {
-    if !((1 <= size) & (size <= 46341)) {
-        return refuse(Answer::InvalidCoreSize, blank(0));
+    let size = rules.size;
+    if !((1 <= size) & (size <= LARGEST_CORE)) {
+        return refuse(Answer::InvalidCoreSize, blank(Rules { size: 0 }));
     }
     let slots = queue.len();
-    let limited = (1 <= slots) & (slots <= 65535);
+    let limited = (1 <= slots) & (slots <= MOST_ENTRIES);
     if (core.len() != size as usize) | !limited {
-        return refuse(Answer::InvalidMemory, blank(0));
+        return refuse(Answer::InvalidMemory, blank(Rules { size: 0 }));
     }
     memory::fill(core, fresh_cell());
     memory::fill(queue, 0);
     Outcome {
         answer: Answer::Done,
         writes: 0,
-        header: blank(size),
+        steps: 0,
+        header: blank(rules),
     }
 }
 
@@ -89,12 +93,11 @@ pub fn get(core: &[u64], queue: &[u64], h: Header, number: i32) -> Reading
     if !sound_header(
         core,
         queue,
-        h.size,
-        h.head,
-        h.length,
-        h.held,
-        &h.names,
-        &h.lengths,
+        h.rules,
+        h.ring,
+        h.names.held,
+        &h.names.bytes,
+        &h.names.lengths,
         &h.counts,
     ) {
         return Reading {
@@ -102,10 +105,10 @@ pub fn get(core: &[u64], queue: &[u64], h: Header, number: i32) -> Reading
             cell: unpack(0),
         };
     }
-    let place = reduce(number, h.size);
+    let place = add(Absolute(0), reduce(number, h.rules.size), h.rules.size);
     let at = place.0 as usize;
     let w = core[at];
-    if !sound(w, h.size) {
+    if !sound(w, h.rules.size) {
         return Reading {
             answer: Answer::UnsoundRecord,
             cell: unpack(0),

@@ -1,36 +1,14 @@
-// The lent memories: filled, and a warrior's body placed in the core.
+// The lent memories, filled.
 ghost use mathlib.Core.Path.{_≡_};
 ghost use lib.ListN.{length, replicate};
-ghost use Rattle.program.specs.Program.{cells};
-ghost use Rattle.sim.specs.Given.{placedIf};
-use program::write_cells;
 
 // Fills a memory with one word.
-pub fn fill(memory: &mut [u64], word: u64)
+pub(crate) fn fill(memory: &mut [u64], word: u64)
     ensures { λ _. ⌜ now (memory .exit) ≡ replicate (length (now (memory .entry))) word ⌝ }
 {
     let mut i: usize = 0;
     while i < memory.len() {
         memory[i] = word;
         i += 1;
-    }
-}
-
-// Places a body: in the part of the core that begins at the place, and what is left from cell 0 on.
-pub fn place_body(core: &mut [u64], place: usize, body: &[u8], size: u32)
-    ensures { λ _. ⌜ now (core .exit) ≡ placedIf (now (core .entry)) place (cells size (now (body .entry))) ⌝ }
-{
-    if core.len() <= place {
-        return;
-    }
-    let count = body.len() / 12;
-    if core.len() < count {
-        return;
-    }
-    let room = core.len() - place;
-    write_cells(&mut core[place..], body, size);
-    if room < count {
-        let rest = 12 * room;
-        write_cells(core, &body[rest..], size);
     }
 }

@@ -2,4 +2,3 @@ pub mod Numbers
 pub mod Thin
 pub mod Answers
 pub mod Played
-pub mod Loaded

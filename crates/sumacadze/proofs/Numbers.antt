@@ -1,24 +1,22 @@
 -- What the machine's calls and the reader give back, in numbers.
 -- Assumes nothing.
 use Prim.Native.Nat.{ℕ, _*_}
-use mathlib.Core.Path.{_≡_, refl, ap, sym, _∙_}
+use mathlib.Core.Path.{_≡_, ap, _∙_}
 use mathlib.Core.List.{List}
 use Rattle.answer.specs.declared.Answer.{Answer}
 use Rattle.answer.specs.Numbers.{Told, told, gives}
 use lib.IntN.{ℤ}
-use Rattle.load_file.specs.declared.Cell.{Cell}
-use Rattle.load_file.specs.Cells.{unpacked}
-use Rattle.machine.specs.Load.{load, loaded}
+use Rattle.cell.specs.declared.Cell.{Cell}
+use Rattle.cell.specs.Cells.{unpacked}
 use Rattle.machine.specs.Run.{read}
 use Rattle.machine.specs.State.{Machine}
-use Rattle.machine.proofs.Load.{load-by-cases}
-use Rattle.sim.specs.Given as sim
-use Rattle.cycle.specs.Given as played
-use Rattle.match_file.specs.declared.fault.Fault.{Fault}
-use Rattle.match_file.specs.declared.fault.Fault.the-variants.{Nowhere, At}
-use Rattle.match_file.specs.Reading.{zeroed}
+use Rattle.lent.specs.Given.{Given, given}
+use Rattle.match_file.specs.declared.Line.{Line}
+use Rattle.match_format.specs.declared.Fault.{Fault}
+use Rattle.match_format.specs.declared.Fault.the-variants.{Nowhere, At}
+use Rattle.match_file.specs.Reading.{cleared, zeroed}
 use Rattle.sumacadze.specs.declared.Report.{Report}
-use Rattle.sumacadze.specs.Report.{Given, given, givenBy, report, reported}
+use Rattle.sumacadze.specs.Report.{report, reported}
 
 -- an answer is its number and its value
 pub told-in-numbers : (answer : Answer) {number value : ℕ} {t : Told} → number ≡ told answer .number → value ≡ told answer .value → told answer ≡ t → gives number value ≡ t
@@ -29,30 +27,10 @@ pub report-by : (answer : Answer) {r : Report} → r .number ≡ told answer .nu
 report-by answer {r} n v =
     ap (λ (x : ℕ). report x (r .value) (r .writes) (r .steps)) n ∙ ap (λ (x : ℕ). report (told answer .number) x (r .writes) (r .steps)) v
 
--- a report with the record that the call leaves
-abbrev givenWith : Machine → Report → Given
-givenWith m r = given (r .number) (r .value) (r .writes) (r .steps) m
-
--- of step and run
-abbrev pub playedInNumbers : played.Given → Given
-playedInNumbers g = given (g .told .number) (g .told .value) (g .writes) (g .steps) (g .machine)
-
-pub played-in-numbers : (answer : Answer) {writes steps : ℕ} (m : Machine) {r : Report} {g : played.Given} → r ≡ reported answer writes steps → played.given answer writes steps m ≡ g
-    → givenWith m r ≡ playedInNumbers g
-played-in-numbers answer m e p = ap (givenWith m) e ∙ ap playedInNumbers p
-
--- of load, which takes no step
-module _ (m : Machine) (name body : List ℕ) (origin place : ℕ) where
-  load-takes-none : load m name body origin place .steps ≡ 0
-  unfolding loaded
-  load-takes-none = load-by-cases m name body origin place (λ o. o .steps ≡ 0) (λ n v e x. refl) (λ e. refl)
-
-  pub load-in-numbers : (answer : Answer) {writes : ℕ} (after : Machine) {r : Report} → r ≡ reported answer writes 0
-      → sim.given answer writes (after .core) (after .queue) (after .header) ≡ sim.givenBy (load m name body origin place) → givenWith after r ≡ givenBy (load m name body origin place)
-  load-in-numbers answer after e p =
-      let o = load m name body origin place in
-      ap (givenWith after) e ∙ ap (λ (g : sim.Given). given (g .told .number) (g .told .value) (g .writes) 0 (g .machine)) p
-      ∙ ap (λ (s : ℕ). given (o .number) (o .value) (o .writes) s (o .machine)) (sym load-takes-none)
+-- of load, step and run: with the record that the call leaves
+pub in-numbers : (answer : Answer) {writes steps : ℕ} (m : Machine) {r : Report} {g : Given} → r ≡ reported answer writes steps → given (told answer) writes steps m ≡ g
+    → given (gives (r .number) (r .value)) (r .writes) (r .steps) m ≡ g
+in-numbers answer m e p = ap (λ (r : Report). given (gives (r .number) (r .value)) (r .writes) (r .steps) m) e ∙ p
 
 -- of cell reading
 pub read-in-numbers : (answer : Answer) {number : ℕ} {cell : Cell} (m : Machine) {z z′ : ℤ} → z′ ≡ z → number ≡ told answer .number
@@ -60,7 +38,27 @@ pub read-in-numbers : (answer : Answer) {number : ℕ} {cell : Cell} (m : Machin
 read-in-numbers answer m e n r =
     (n ∙ ap (λ (t : Told). t .number) (r .0) ∙ ap (λ (z : ℤ). read m z .number) e, r .1 ∙ ap (λ (z : ℤ). unpacked (read m z .value)) e)
 
--- twelve bytes an instruction, and none of what is refused
-pub twelve-zeroed : (f : Fault) (n : ℕ) {m : ℕ} → m ≡ zeroed f n → 12 * m ≡ zeroed f (12 * n)
-twelve-zeroed Nowhere n e = ap (λ (x : ℕ). 12 * x) e
-twelve-zeroed (At p) n e = ap (λ (x : ℕ). 12 * x) e
+-- what a line says, twelve bytes an instruction, and nothing of what is refused
+abbrev LineTold : Fault → Line → Line → Type 0
+LineTold f n l =
+    (l .«name_start» ≡ zeroed f (n .«name_start»)) × (l .«name_length» ≡ zeroed f (n .«name_length»))
+    × (l .«body_start» ≡ zeroed f (n .«body_start»)) × (12 * l .count ≡ zeroed f (12 * n .count))
+    × (l .origin ≡ zeroed f (n .origin)) × (l .place ≡ zeroed f (n .place))
+
+pub line-told : (f : Fault) (n : Line) {l : Line} → l ≡ cleared f n → LineTold f n l
+line-told Nowhere n e = (
+  ap (λ (x : Line). x .«name_start») e,
+  ap (λ (x : Line). x .«name_length») e,
+  ap (λ (x : Line). x .«body_start») e,
+  ap (λ (x : Line). 12 * x .count) e,
+  ap (λ (x : Line). x .origin) e,
+  ap (λ (x : Line). x .place) e,
+)
+line-told (At p) n e = (
+  ap (λ (x : Line). x .«name_start») e,
+  ap (λ (x : Line). x .«name_length») e,
+  ap (λ (x : Line). x .«body_start») e,
+  ap (λ (x : Line). 12 * x .count) e,
+  ap (λ (x : Line). x .origin) e,
+  ap (λ (x : Line). x .place) e,
+)

@@ -2,7 +2,7 @@
 ghost use mathlib.Core.Path.{_≡_};
 ghost use Prim.Native.Nat.{_*_};
 ghost use Rattle.answer.specs.Numbers.{gives};
-ghost use Rattle.match_file.specs.Faults.{fault, faultAt};
+ghost use Rattle.match_format.specs.Faults.{fault, faultAt};
 ghost use Rattle.match_file.specs.Reading.{toldBy, zeroed, warriorsIn, sizeIn, lineAt, nameStart, nameLength, bodyStart, countOf, warriorOf};
 use answer::number;
 use answer::value;
@@ -59,14 +59,15 @@ pub extern "C" fn sumacadze_read_line(file: &[u8], warrior: usize) -> Line
 {
     let s = match_file::read_line(file, warrior);
     let answer = s.answer;
+    let line = s.line;
     Line {
         number: number(answer),
         position: value(answer),
-        name_start: s.name_start,
-        name_length: s.name_length,
-        body_start: s.body_start,
-        body_length: 12 * s.count as usize,
-        origin: s.origin,
-        place: s.place,
+        name_start: line.name_start,
+        name_length: line.name_length,
+        body_start: line.body_start,
+        body_length: 12 * line.count as usize,
+        origin: line.origin,
+        place: line.place,
     }
 }

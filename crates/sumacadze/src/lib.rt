@@ -1,14 +1,17 @@
 // The machine's calls for programs in C and Rust (include/sumacadze.h): a fresh machine, cell reading, and load, step and run over a header that the caller lends and that is changed in place.
 ghost use mathlib.Core.Path.{_≡_};
-ghost use Rattle.load_file.specs.Cells.{unpacked};
+ghost use Rattle.answer.specs.Numbers.{gives};
+ghost use Rattle.cell.specs.Cells.{unpacked};
+ghost use Rattle.machine.specs.Fresh as starting;
 ghost use Rattle.machine.specs.Load as loading;
 ghost use Rattle.machine.specs.Run as running;
 ghost use Rattle.machine.specs.Step as one;
-ghost use Rattle.process.specs.Parts.{machineOf};
-ghost use Rattle.sumacadze.specs.Report.{given, givenBy, ceilingIf, cellOf};
+ghost use Rattle.lent.specs.Parts.{machineOf};
+ghost use Rattle.lent.specs.Given.{given, givenBy};
+ghost use Rattle.sumacadze.specs.Report.{ceilingIf, cellOf};
 use by_value::in_numbers;
-use by_value::load_in_numbers;
 use machine::Header;
+use machine::Rules;
 
 mod by_value;
 pub mod file;
@@ -43,11 +46,11 @@ pub struct Reading {
 
 // A fresh machine: fresh cells, zeros in the queue memory, and its header.
 #[no_mangle]
-pub extern "C" fn sumacadze_fresh(size: u32, core: &mut [u64], queue: &mut [u64]) -> Fresh
-    ensures { λ r. ⌜ (r .number ≡ loading.fresh size (now (core .entry)) (now (queue .entry)) .number)
-        × (machineOf (now (core .exit)) (now (queue .exit)) (r .header) ≡ loading.fresh size (now (core .entry)) (now (queue .entry)) .machine) ⌝ }
+pub extern "C" fn sumacadze_fresh(rules: Rules, core: &mut [u64], queue: &mut [u64]) -> Fresh
+    ensures { λ r. ⌜ (r .number ≡ starting.fresh rules (now (core .entry)) (now (queue .entry)) .number)
+        × (machineOf (now (core .exit)) (now (queue .exit)) (r .header) ≡ starting.fresh rules (now (core .entry)) (now (queue .entry)) .machine) ⌝ }
 {
-    let s = sim::fresh(size, core, queue);
+    let s = sim::fresh(rules, core, queue);
     let answer = s.answer;
     let header = s.header;
     Fresh {
@@ -87,18 +90,18 @@ pub extern "C" fn sumacadze_load(
     origin: u16,
     place: u32,
 ) -> Report
-    ensures { λ r. ⌜ given (r .number) (r .value) (r .writes) (r .steps) (machineOf (now (core .exit)) (now (queue .exit)) (now (header .exit)))
+    ensures { λ r. ⌜ given (gives (r .number) (r .value)) (r .writes) (r .steps) (machineOf (now (core .exit)) (now (queue .exit)) (now (header .exit)))
         ≡ givenBy (loading.load (machineOf (now (core .entry)) (now (queue .entry)) (now (header .entry))) (now (name .entry)) (now (body .entry)) origin place) ⌝ }
 {
-    let s = sim::warrior::load(core, queue, *header, name, body, origin, place);
+    let s = warrior::load(core, queue, *header, name, body, origin, place);
     *header = s.header;
-    load_in_numbers(s.answer, s.writes)
+    in_numbers(s.answer, s.writes, s.steps)
 }
 
 // Executes one instruction of the process at the front.
 #[no_mangle]
 pub extern "C" fn sumacadze_step(core: &mut [u64], queue: &mut [u64], header: &mut Header) -> Report
-    ensures { λ r. ⌜ given (r .number) (r .value) (r .writes) (r .steps) (machineOf (now (core .exit)) (now (queue .exit)) (now (header .exit)))
+    ensures { λ r. ⌜ given (gives (r .number) (r .value)) (r .writes) (r .steps) (machineOf (now (core .exit)) (now (queue .exit)) (now (header .exit)))
         ≡ givenBy (one.step (machineOf (now (core .entry)) (now (queue .entry)) (now (header .entry)))) ⌝ }
 {
     let s = cycle::step(core, queue, *header);
@@ -115,7 +118,7 @@ pub extern "C" fn sumacadze_run(
     said: bool,
     ceiling: u64,
 ) -> Report
-    ensures { λ r. ⌜ given (r .number) (r .value) (r .writes) (r .steps) (machineOf (now (core .exit)) (now (queue .exit)) (now (header .exit)))
+    ensures { λ r. ⌜ given (gives (r .number) (r .value)) (r .writes) (r .steps) (machineOf (now (core .exit)) (now (queue .exit)) (now (header .exit)))
         ≡ givenBy (running.run (ceilingIf said ceiling) (machineOf (now (core .entry)) (now (queue .entry)) (now (header .entry)))) ⌝ }
 {
     let s = by_value::run(core, queue, *header, said, ceiling);

@@ -2,8 +2,8 @@
 -- Assumes nothing.
 use borrow.Author.Needs.{needs}
 use mathlib.Core.Path.{_∙_}
-use Rattle.process.specs.Parts.{machineOf}
-use Rattle.cycle.proofs.Calls.{run-by}
+use Rattle.lent.specs.Parts.{machineOf}
+use Rattle.steps.proofs.Calls.{run-by}
 use Rattle.cycle.proofs.run.Statement.{statement}
 use Rattle.cycle.proofs.run.Tie as tie
 
@@ -21,8 +21,8 @@ same-length-2 c = search needs
 
 returns : tie.Need-returns
 returns c =
-    let a = c .before .before .before .before .before .before .before .before .before .before .before .before .before .before .before .before .before .args in
-    c .before .before .before .before .run-parts .ensures ∙ run-by (a .ceiling) (machineOf (a .core .now) (a .queue .now) (a .t3)) (c .before .before .before .before .before .before .before .before .before .before .before .before .ceiling-of .ensures)
+    let a = c .before .before .before .before .before .before .before .before .before .before .before .before .before .before .before .before .before .before .before .before .args in
+    c .before .before .before .before .before .run-parts .ensures ∙ run-by (a .ceiling) (machineOf (a .core .now) (a .queue .now) (a .t3)) (c .before .before .before .before .before .before .before .before .before .before .before .before .before .before .before .ceiling-of .ensures)
 
 pub run-spec : {M : Type 1} → statement M
 run-spec =

@@ -3,8 +3,8 @@
 use borrow.Author.Needs.{needs}
 use mathlib.Core.Path.{ap, _∙_}
 use Rattle.machine.proofs.Run.{run-one}
-use Rattle.process.specs.Parts.{machineOf}
-use Rattle.cycle.specs.Given.{givenBy}
+use Rattle.lent.specs.Parts.{machineOf}
+use Rattle.lent.specs.Given.{givenBy}
 use Rattle.cycle.proofs.step.Statement.{statement}
 use Rattle.cycle.proofs.step.Tie as tie
 
@@ -25,8 +25,8 @@ same-length-2 c = search needs
 
 returns : tie.Need-returns
 returns c =
-    let a = c .before .before .before .before .before .before .before .before .before .before .before .before .before .before .before .before .args in
-    c .before .before .before .before .run-parts .ensures ∙ ap givenBy (run-one (machineOf (a .core .now) (a .queue .now) (a .t3)))
+    let a = c .before .before .before .before .before .before .before .before .before .before .before .before .before .before .before .before .before .before .before .args in
+    c .before .before .before .before .before .run-parts .ensures ∙ ap givenBy (run-one (machineOf (a .core .now) (a .queue .now) (a .t3)))
 
 pub step-spec : {M : Type 1} → statement M
 step-spec =

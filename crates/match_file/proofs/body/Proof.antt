@@ -1,9 +1,10 @@
--- `match_file::body` meets its contract: the part is within the file, where the file has no fault.
+-- `match_file::body` meets its contract.
 -- Assumes nothing.
 use borrow.Author.Needs.{needs}
 use native.Mathlib.Omega.{arith}
 use mathlib.Core.Path.{sym, _∙_}
-use Rattle.match_file.proofs.Whole.{warrior-ok, below-16, no-part, its-body}
+use Rattle.match_file.proofs.Values.{body-told, no-part, its-part}
+use Rattle.match_format.proofs.Whole.{below-16}
 use Rattle.match_file.proofs.body.Statement.{statement}
 use Rattle.match_file.proofs.body.Tie as tie
 
@@ -19,50 +20,29 @@ slice-aggregate-result c = search needs
 enum-told-2 : tie.Need-enum-told-2
 enum-told-2 c = search needs
 
-mul-at : tie.Need-mul-at
-mul-at c = omega (arith, below-16 _ _ (sym (c .before .before .first-fault-at .ensures) ∙ c .enum-told2 .given .1))
+cast-line-in : tie.Need-cast-line-in
+cast-line-in c = record { fits = omega (arith, below-16 _ _ (sym (c .before .before .first-fault-at .ensures) ∙ c .enum-told2 .given .1)) }
 
-add-at : tie.Need-add-at
-add-at c = omega (arith, below-16 _ _ (sym (c .before .before .first-fault-at .ensures) ∙ c .enum-told2 .given .1))
+line-in-requires : tie.Need-line-in-requires
+line-in-requires c κs = search needs
 
-add-number32 : tie.Need-add-number32
-add-number32 c = omega (arith, below-16 _ _ (sym (c .before .before .first-fault-at .ensures) ∙ c .enum-told2 .given .1))
+cast-part : tie.Need-cast-part
+cast-part c = search needs
 
-number32-requires : tie.Need-number32-requires
-number32-requires c κs = let w = warrior-ok _ _ (sym (c .before .before .first-fault-at .ensures) ∙ c .enum-told2 .given .1) in omega (arith, w .its .line .fits)
+mul-part : tie.Need-mul-part
+mul-part c = search needs
 
-cast-start : tie.Need-cast-start
-cast-start c = search needs
-
-add-number16 : tie.Need-add-number16
-add-number16 c = omega (arith, below-16 _ _ (sym (c .before .before .before .first-fault-at .ensures) ∙ c .before .enum-told2 .given .1))
-
-number16-requires : tie.Need-number16-requires
-number16-requires c κs = let w = warrior-ok _ _ (sym (c .before .before .before .first-fault-at .ensures) ∙ c .before .enum-told2 .given .1) in omega (arith, w .its .line .fits)
-
-cast-end : tie.Need-cast-end
-cast-end c = search needs
-
-mul-end : tie.Need-mul-end
-mul-end c = search needs
-
-add-end : tie.Need-add-end
-add-end c = search needs
-
-sub-result : tie.Need-sub-result
-sub-result c = search needs
-
-part-result-start : tie.Need-part-result-start
-part-result-start c = search needs
-
-part-result-end : tie.Need-part-result-end
-part-result-end c = let w = warrior-ok _ _ (sym (c .before .before .before .before .first-fault-at .ensures) ∙ c .before .before .enum-told2 .given .1) in omega (arith, w .its .ends, w .its .line .start, c .before .number32 .ensures, c .number16 .ensures)
+part-requires : tie.Need-part-requires
+part-requires c κs = search needs
 
 returns : tie.Need-returns
 returns c = no-part _ _ _ (sym (c .before .before .before .first-fault-at .ensures) ∙ c .before .enum-told .given .1)
 
 returns-2 : tie.Need-returns-2
-returns-2 c = its-body _ _ _ _ (sym (c .before .before .before .before .before .first-fault-at .ensures) ∙ c .before .before .before .enum-told2 .given .1) (c .before .before .number32 .ensures) (c .before .number16 .ensures)
+returns-2 c =
+    let a = c .before .before .before .before .before .before .before .args in
+    its-part (a .file .now) (a .number) (sym (c .before .before .before .before .before .first-fault-at .ensures) ∙ c .before .before .before .enum-told2 .given .1)
+    (body-told (a .file .now) (a .number) (c .before .before .line-in .ensures) (c .part .ensures))
 
 pub body-spec : {M : Type 1} → statement M
 body-spec =
@@ -72,18 +52,10 @@ body-spec =
     enum-told
     slice-aggregate-result
     enum-told-2
-    mul-at
-    add-at
-    add-number32
-    number32-requires
-    cast-start
-    add-number16
-    number16-requires
-    cast-end
-    mul-end
-    add-end
-    sub-result
-    part-result-start
-    part-result-end
+    cast-line-in
+    line-in-requires
+    cast-part
+    mul-part
+    part-requires
     returns
     returns-2)

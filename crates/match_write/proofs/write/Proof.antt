@@ -5,8 +5,8 @@ use native.Mathlib.Omega.{arith}
 use Prim.Native.Nat.{_-_}
 use lib.ListN.{length}
 use Rattle.laws.proofs.Tests.{refuted, upheld}
-use Rattle.program.proofs.Names.{valid-name}
-use Rattle.match_file.proofs.Whole.{lines-start}
+use Rattle.metadata.proofs.Names.{valid-name}
+use Rattle.match_format.proofs.Whole.{lines-start}
 use Rattle.match_write.proofs.Checks.{refusing, too-small, too-large, too-long, bad-code, bad-name, bad-place, no-room, room-for, written}
 use Rattle.match_write.proofs.write.Statement.{statement}
 use Rattle.match_write.proofs.write.Tie as tie
@@ -46,8 +46,14 @@ refuse-requires-4 c κs = search needs
 
 returns-4 : tie.Need-returns-4
 returns-4 c =
+    let if3 = c .before .before .before .if3 in
+    let len = c .before .before .before .before .len in
+    let if2 = c .before .before .before .before .before .if2 in
+    let if1 = c .before .before .before .before .before .before .if1 in
+    let start = c .before .before .before .before .before .before .before .before .before .before .before in
     refusing _ (c .refuse4 .ensures)
-    (bad-code _ _ _ _ _ _ (c .before .before .before .before .before .before .before .before .before .before .before .pre) (c .before .before .before .before .before .before .if1 .left) (c .before .before .before .before .before .if2 .left) _ (c .before .before .before .before .len .ensures) (c .before .before .before .if3 .left) _ (c .before .before .lowest-fault .ensures) (c .before .if4 .taken))
+    (bad-code _ _ _ _ _ _ (start .pre) (if1 .left) (if2 .left) _ (len .ensures) (if3 .left) _ (c .before .before .lowest-fault .ensures)
+    (c .before .if4 .taken))
 
 valid-name-requires : tie.Need-valid-name-requires
 valid-name-requires c κs = search needs
@@ -57,16 +63,33 @@ refuse-requires-5 c κs = search needs
 
 returns-5 : tie.Need-returns-5
 returns-5 c =
+    let if4 = c .before .before .before .if4 in
+    let lowest-fault = c .before .before .before .before .lowest-fault in
+    let if3 = c .before .before .before .before .before .if3 in
+    let len = c .before .before .before .before .before .before .len in
+    let if2 = c .before .before .before .before .before .before .before .if2 in
+    let if1 = c .before .before .before .before .before .before .before .before .if1 in
+    let start = c .before .before .before .before .before .before .before .before .before .before .before .before .before in
     refusing _ (c .refuse5 .ensures)
-    (bad-name _ _ _ _ _ _ (c .before .before .before .before .before .before .before .before .before .before .before .before .before .pre) (c .before .before .before .before .before .before .before .before .if1 .left) (c .before .before .before .before .before .before .before .if2 .left) _ (c .before .before .before .before .before .before .len .ensures) (c .before .before .before .before .before .if3 .left) _ (c .before .before .before .before .lowest-fault .ensures) (c .before .before .before .if4 .left) (refuted (c .before .before .valid-name .ensures) (c .before .if5 .taken)))
+    (bad-name _ _ _ _ _ _ (start .pre) (if1 .left) (if2 .left) _ (len .ensures) (if3 .left) _ (lowest-fault .ensures) (if4 .left)
+    (refuted (c .before .before .valid-name .ensures) (c .before .if5 .taken)))
 
 refuse-requires-6 : tie.Need-refuse-requires-6
 refuse-requires-6 c κs = search needs
 
 returns-6 : tie.Need-returns-6
 returns-6 c =
+    let valid-name = c .before .before .before .valid-name in
+    let if4 = c .before .before .before .before .if4 in
+    let lowest-fault = c .before .before .before .before .before .lowest-fault in
+    let if3 = c .before .before .before .before .before .before .if3 in
+    let len = c .before .before .before .before .before .before .before .len in
+    let if2 = c .before .before .before .before .before .before .before .before .if2 in
+    let if1 = c .before .before .before .before .before .before .before .before .before .if1 in
+    let start = c .before .before .before .before .before .before .before .before .before .before .before .before .before .before in
     refusing _ (c .refuse6 .ensures)
-    (bad-place _ _ _ _ _ _ (c .before .before .before .before .before .before .before .before .before .before .before .before .before .before .pre) (c .before .before .before .before .before .before .before .before .before .if1 .left) (c .before .before .before .before .before .before .before .before .if2 .left) _ (c .before .before .before .before .before .before .before .len .ensures) (c .before .before .before .before .before .before .if3 .left) _ (c .before .before .before .before .before .lowest-fault .ensures) (c .before .before .before .before .if4 .left) (upheld (c .before .before .before .valid-name .ensures) (c .before .before .if5 .left)) (c .before .if6 .taken))
+    (bad-place _ _ _ _ _ _ (start .pre) (if1 .left) (if2 .left) _ (len .ensures) (if3 .left) _ (lowest-fault .ensures) (if4 .left)
+    (upheld (valid-name .ensures) (c .before .before .if5 .left)) (c .before .if6 .taken))
 
 sub-rest : tie.Need-sub-rest
 sub-rest c = omega (arith, lines-start _ _ _ _ (c .before .before .before .before .before .before .before .before .before .before .before .before .before .pre .lines))
@@ -79,8 +102,19 @@ refuse-requires-7 c κs = search needs
 
 returns-7 : tie.Need-returns-7
 returns-7 c =
+    let if6 = c .before .before .before .if6 in
+    let if5 = c .before .before .before .before .if5 in
+    let valid-name = c .before .before .before .before .before .valid-name in
+    let if4 = c .before .before .before .before .before .before .if4 in
+    let lowest-fault = c .before .before .before .before .before .before .before .lowest-fault in
+    let if3 = c .before .before .before .before .before .before .before .before .if3 in
+    let len = c .before .before .before .before .before .before .before .before .before .len in
+    let if2 = c .before .before .before .before .before .before .before .before .before .before .if2 in
+    let if1 = c .before .before .before .before .before .before .before .before .before .before .before .if1 in
+    let start = c .before .before .before .before .before .before .before .before .before .before .before .before .before .before .before .before in
     refusing _ (c .refuse7 .ensures)
-    (no-room _ _ _ _ _ _ (c .before .before .before .before .before .before .before .before .before .before .before .before .before .before .before .before .pre) (c .before .before .before .before .before .before .before .before .before .before .before .if1 .left) (c .before .before .before .before .before .before .before .before .before .before .if2 .left) _ (c .before .before .before .before .before .before .before .before .before .len .ensures) (c .before .before .before .before .before .before .before .before .if3 .left) _ (c .before .before .before .before .before .before .before .lowest-fault .ensures) (c .before .before .before .before .before .before .if4 .left) (upheld (c .before .before .before .before .before .valid-name .ensures) (c .before .before .before .before .if5 .left)) (c .before .before .before .if6 .left) (refuted (c .before .before .has-room .ensures) (c .before .if7 .taken)))
+    (no-room _ _ _ _ _ _ (start .pre) (if1 .left) (if2 .left) _ (len .ensures) (if3 .left) _ (lowest-fault .ensures) (if4 .left)
+    (upheld (valid-name .ensures) (if5 .left)) (if6 .left) (refuted (c .before .before .has-room .ensures) (c .before .if7 .taken)))
 
 store-file-requires : tie.Need-store-file-requires
 store-file-requires c κs =
@@ -93,7 +127,22 @@ same-length : tie.Need-same-length
 same-length c = search needs
 
 returns-8 : tie.Need-returns-8
-returns-8 c = written _ _ _ _ _ _ (c .before .before .before .before .before .before .before .before .before .before .before .before .before .before .before .before .before .before .before .pre) (c .before .before .before .before .before .before .before .before .before .before .before .before .before .before .if1 .left) (c .before .before .before .before .before .before .before .before .before .before .before .before .before .if2 .left) _ (c .before .before .before .before .before .before .before .before .before .before .before .before .len .ensures) (c .before .before .before .before .before .before .before .before .before .before .before .if3 .left) _ (c .before .before .before .before .before .before .before .before .before .before .lowest-fault .ensures) (c .before .before .before .before .before .before .before .before .before .if4 .left) (upheld (c .before .before .before .before .before .before .before .before .valid-name .ensures) (c .before .before .before .before .before .before .before .if5 .left)) (c .before .before .before .before .before .before .if6 .left) (upheld (c .before .before .before .before .before .has-room .ensures) (c .before .before .before .before .if7 .left)) (c .before .before .store-file .ensures .0) (c .before .before .store-file .ensures .1)
+returns-8 c =
+    let store-file = c .before .before .store-file in
+    let if7 = c .before .before .before .before .if7 in
+    let has-room = c .before .before .before .before .before .has-room in
+    let if6 = c .before .before .before .before .before .before .if6 in
+    let if5 = c .before .before .before .before .before .before .before .if5 in
+    let valid-name = c .before .before .before .before .before .before .before .before .valid-name in
+    let if4 = c .before .before .before .before .before .before .before .before .before .if4 in
+    let lowest-fault = c .before .before .before .before .before .before .before .before .before .before .lowest-fault in
+    let if3 = c .before .before .before .before .before .before .before .before .before .before .before .if3 in
+    let len = c .before .before .before .before .before .before .before .before .before .before .before .before .len in
+    let if2 = c .before .before .before .before .before .before .before .before .before .before .before .before .before .if2 in
+    let if1 = c .before .before .before .before .before .before .before .before .before .before .before .before .before .before .if1 in
+    let start = c .before .before .before .before .before .before .before .before .before .before .before .before .before .before .before .before .before .before .before in
+    written _ _ _ _ _ _ (start .pre) (if1 .left) (if2 .left) _ (len .ensures) (if3 .left) _ (lowest-fault .ensures) (if4 .left)
+    (upheld (valid-name .ensures) (if5 .left)) (if6 .left) (upheld (has-room .ensures) (if7 .left)) (store-file .ensures .0) (store-file .ensures .1)
 
 pub write-spec : {M : Type 1} → statement M
 write-spec =

@@ -2,7 +2,7 @@
 -- Assumes nothing.
 use borrow.Author.Needs.{needs}
 use native.Mathlib.Omega.{arith}
-use Rattle.match_file.specs.Format.{warrior}
+use Rattle.match_format.specs.Format.{warrior}
 use Rattle.match_write.proofs.Checks.{refusing}
 use Rattle.match_file.proofs.Values.{number-read}
 use Rattle.match_write.proofs.Added.{refused, reads, few, earlier, added}

@@ -44,7 +44,12 @@ is-lawful-requires : tie.Need-is-lawful-requires Inv-loop μ-loop
 is-lawful-requires c κs = search needs
 
 returns : tie.Need-returns Inv-loop μ-loop
-returns c = found (c .before .before .before .before .before .before .before .before .before .args .body .now) _ (c .before .before .before .before .before .loop .inv .1) (omega arith) (ap (λ (xs : List ℕ). lawful (take 12 xs)) (sym (to-end (c .before .before .before .before .before .before .before .before .before .args .body .now) (12 * c .before .before .before .before .before .loop .i))) ∙ refuted (c .before .is-lawful .ensures) (c .if1 .taken))
+returns c =
+    let loop = c .before .before .before .before .before .loop in
+    let start = c .before .before .before .before .before .before .before .before .before in
+    found (start .args .body .now) _ (loop .inv .1) (omega arith)
+    (ap (λ (xs : List ℕ). lawful (take 12 xs)) (sym (to-end (start .args .body .now) (12 * loop .i))) ∙ refuted (c .before .is-lawful .ensures)
+    (c .if1 .taken))
 
 add-i : tie.Need-add-i Inv-loop μ-loop
 add-i c = search needs
@@ -53,7 +58,14 @@ loop-less : tie.Need-loop-less Inv-loop μ-loop
 loop-less c = search needs
 
 loop-again : tie.Need-loop-again Inv-loop μ-loop
-loop-again c = (omega arith, further (c .before .before .before .before .before .before .before .before .before .args .body .now) _ (c .before .before .before .before .before .loop .inv .1) (omega arith) (ap (λ (xs : List ℕ). lawful (take 12 xs)) (sym (to-end (c .before .before .before .before .before .before .before .before .before .args .body .now) (12 * c .before .before .before .before .before .loop .i))) ∙ upheld (c .before .is-lawful .ensures) (c .if1 .left)))
+loop-again c =
+    let loop = c .before .before .before .before .before .loop in
+    let start = c .before .before .before .before .before .before .before .before .before in (
+      omega arith,
+      further (start .args .body .now) _ (loop .inv .1) (omega arith)
+          (ap (λ (xs : List ℕ). lawful (take 12 xs)) (sym (to-end (start .args .body .now) (12 * loop .i))) ∙ upheld (c .before .is-lawful .ensures)
+          (c .if1 .left)),
+    )
 
 returns-2 : tie.Need-returns-2 Inv-loop μ-loop
 returns-2 c = c .before .before .len .ensures ∙ nowhere (c .before .before .before .before .before .args .body .now) _ (c .before .loop .inv .1) (omega arith) (omega arith)

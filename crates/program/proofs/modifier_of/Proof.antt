@@ -4,7 +4,7 @@ use borrow.Author.Needs.{needs}
 use Rattle.program.proofs.modifier_of.Statement.{statement}
 use Rattle.program.proofs.modifier_of.Tie as tie
 use lib.ListN.{getD}
-use Rattle.load_file.proofs.Default.{read-is}
+use Rattle.types.proofs.Default.{read-is}
 use Rattle.program.proofs.Front.{resolved, named}
 
 shared-slice-read-modifier : tie.Need-shared-slice-read-modifier
@@ -23,7 +23,12 @@ default-in-requires : tie.Need-default-in-requires
 default-in-requires c κs = search needs
 
 returns : tie.Need-returns
-returns c = resolved (c .before .before .before .before .before .before .before .args .front .now) (c .before .before .before .before .if1 .taken) (read-is (getD (c .before .before .before .before .before .before .before .args .front .now) 0 0) (getD (c .before .before .before .before .before .before .before .args .front .now) 2 0) (getD (c .before .before .before .before .before .before .before .args .front .now) 3 0) (c .before .before .before .before .before .before .before .pre .0) (c .default-in .ensures))
+returns c =
+    let if1 = c .before .before .before .before .if1 in
+    let start = c .before .before .before .before .before .before .before in
+    resolved (start .args .front .now) (if1 .taken)
+    (read-is (getD (start .args .front .now) 0 0) (getD (start .args .front .now) 2 0) (getD (start .args .front .now) 3 0) (start .pre .0)
+    (c .default-in .ensures))
 
 returns-2 : tie.Need-returns-2
 returns-2 c = named (c .before .before .before .args .front .now) (c .if1 .left)

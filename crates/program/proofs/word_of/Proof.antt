@@ -65,7 +65,17 @@ pack-requires : tie.Need-pack-requires
 pack-requires c κs = search needs
 
 returns : tie.Need-returns
-returns c = c .pack .ensures ∙ word-is (c .before .before .before .before .before .before .before .before .before .before .before .before .before .before .before .before .before .before .before .before .args .front .now) (c .before .before .before .before .before .before .before .before .before .before .before .before .before .before .before .before .before .before .before .before .args .size) (c .before .before .before .before .before .before .before .before .before .before .before .before .before .before .before .before .before .before .before .before .pre .1) (c .before .before .before .before .before .before .before .modifier-of .ensures) (c .before .before .before .before .before .before .before .before .before .before .before .before .before .before .number32 .ensures) (toZ-ofZ (record { sfits = c .before .before .before .before .signed .ok }) ∙ c .before .before .before .before .signed .ensures) (c .before .before .before .reduce .ensures) (c .before .before .before .before .before .before .before .before .before .number322 .ensures) (toZ-ofZ (record { sfits = c .before .before .signed2 .ok }) ∙ c .before .before .signed2 .ensures) (c .before .reduce2 .ensures)
+returns c =
+    let signed2 = c .before .before .signed2 in
+    let reduce = c .before .before .before .reduce in
+    let signed = c .before .before .before .before .signed in
+    let modifier-of = c .before .before .before .before .before .before .before .modifier-of in
+    let number322 = c .before .before .before .before .before .before .before .before .before .number322 in
+    let number32 = c .before .before .before .before .before .before .before .before .before .before .before .before .before .before .number32 in
+    let start = c .before .before .before .before .before .before .before .before .before .before .before .before .before .before .before .before .before .before .before .before in
+    c .pack .ensures ∙ word-is (start .args .front .now) (start .args .size) (start .pre .1) (modifier-of .ensures) (number32 .ensures)
+    (toZ-ofZ (record { sfits = signed .ok }) ∙ signed .ensures) (reduce .ensures) (number322 .ensures)
+    (toZ-ofZ (record { sfits = signed2 .ok }) ∙ signed2 .ensures) (c .before .reduce2 .ensures)
 
 pub word-of-spec : {M : Type 1} → statement M
 word-of-spec =

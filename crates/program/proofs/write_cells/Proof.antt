@@ -9,7 +9,7 @@ use lib.ListN.{length, take, length-set, length-drop}
 use Prim.Native.Nat.{ℕ, _-_, _*_, _≤_}
 use native.Mathlib.Omega.{arith}
 use Rattle.laws.proofs.Lists.{to-end}
-use Rattle.load_file.specs.Cells.{packed}
+use Rattle.cell.specs.Cells.{packed}
 use Rattle.program.specs.Program.{cellOf}
 use Rattle.program.proofs.Bodies.{Left, none-written, written, all-written, full}
 
@@ -59,7 +59,15 @@ loop-less : tie.Need-loop-less Inv-loop μ-loop
 loop-less c = search needs
 
 loop-again : tie.Need-loop-again Inv-loop μ-loop
-loop-again c = (omega arith, simp length-set (c .before .before .before .before .before .loop .inv .1), written _ _ _ _ _ (c .before .before .before .before .before .loop .inv .2) _ (c .before .before .before .before .loop-test .taken) (c .word-of .ensures ∙ ap (λ (xs : List ℕ). packed (cellOf (c .before .before .before .before .before .before .before .before .before .args .size) (take 12 xs))) (to-end (c .before .before .before .before .before .before .before .before .before .args .body .now) (12 * c .before .before .before .before .before .loop .i))))
+loop-again c =
+    let loop-test = c .before .before .before .before .loop-test in
+    let loop = c .before .before .before .before .before .loop in
+    let start = c .before .before .before .before .before .before .before .before .before in (
+      omega arith,
+      simp length-set (loop .inv .1),
+      written _ _ _ _ _ (loop .inv .2) _ (loop-test .taken)
+          (c .word-of .ensures ∙ ap (λ (xs : List ℕ). packed (cellOf (start .args .size) (take 12 xs))) (to-end (start .args .body .now) (12 * loop .i))),
+    )
 
 same-length-2 : tie.Need-same-length-2 Inv-loop μ-loop
 same-length-2 c = c .before .loop .inv .1

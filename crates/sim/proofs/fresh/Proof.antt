@@ -5,7 +5,7 @@ use mathlib.Core.Path.{_∙_}
 use Rattle.sim.proofs.fresh.Statement.{statement}
 use Rattle.sim.proofs.fresh.Tie as tie
 use Rattle.sim.proofs.FreshMachine.{bad-size, bad-memory, made}
-use Rattle.sim.proofs.Loading.{refusing}
+use Rattle.sim.proofs.Refusals.{refusing}
 
 blank-requires : tie.Need-blank-requires
 blank-requires c κs = search needs
@@ -17,7 +17,10 @@ returns : tie.Need-returns
 returns c =
     let s = c .before .before .before .before .before .args in
     let r = c .refuse .ensures in
-    refusing (s .core .now) (s .queue .now) (r .0, r .1, r .2 ∙ c .before .blank .ensures) (bad-size (s .size) (s .core .now) (s .queue .now) (c .before .before .if1 .taken))
+    refusing (s .core .now) (s .queue .now) (r .0, r .1, r .2, r .3 ∙ c .before .blank .ensures) (bad-size (s .rules) (s .core .now) (s .queue .now) (c .before .before .if1 .taken))
+
+cast-if2 : tie.Need-cast-if2
+cast-if2 c = search needs
 
 blank-requires-2 : tie.Need-blank-requires-2
 blank-requires-2 c κs = search needs
@@ -29,8 +32,8 @@ returns-2 : tie.Need-returns-2
 returns-2 c =
     let s = c .before .before .before .before .before .before .args in
     let r = c .refuse2 .ensures in
-    refusing (s .core .now) (s .queue .now) (r .0, r .1, r .2 ∙ c .before .blank2 .ensures)
-    (bad-memory (s .size) (s .core .now) (s .queue .now) (c .before .before .before .if1 .left) (c .before .before .if2 .taken))
+    refusing (s .core .now) (s .queue .now) (r .0, r .1, r .2, r .3 ∙ c .before .blank2 .ensures)
+    (bad-memory (s .rules) (s .core .now) (s .queue .now) (c .before .before .before .if1 .left) (c .before .before .if2 .taken))
 
 fresh-cell-requires : tie.Need-fresh-cell-requires
 fresh-cell-requires c κs = search needs
@@ -53,7 +56,10 @@ same-length-2 c = search needs
 returns-3 : tie.Need-returns-3
 returns-3 c =
     let s = c .before .before .before .before .before .before .before .before .before .before .before .before .before .before .args in
-    made (s .size) (s .core .now) (s .queue .now) (c .before .before .before .before .before .before .before .before .before .before .before .if1 .left) (c .before .before .before .before .before .before .before .before .before .before .if2 .left) (c .before .before .before .before .before .before .before .before .fresh-cell .ensures) (c .before .before .before .before .before .before .before .fill .ensures) (c .before .before .before .fill2 .ensures) (c .blank3 .ensures)
+    made (s .rules) (s .core .now) (s .queue .now) (c .before .before .before .before .before .before .before .before .before .before .before .if1 .left)
+    (c .before .before .before .before .before .before .before .before .before .before .if2 .left)
+    (c .before .before .before .before .before .before .before .before .fresh-cell .ensures)
+    (c .before .before .before .before .before .before .before .fill .ensures) (c .before .before .before .fill2 .ensures) (c .blank3 .ensures)
 
 pub fresh-spec : {M : Type 1} → statement M
 fresh-spec =
@@ -62,6 +68,7 @@ fresh-spec =
     blank-requires
     refuse-requires
     returns
+    cast-if2
     blank-requires-2
     refuse-requires-2
     returns-2

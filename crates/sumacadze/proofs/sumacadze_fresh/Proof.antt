@@ -2,7 +2,7 @@
 -- Assumes nothing.
 use borrow.Author.Needs.{needs}
 use mathlib.Core.Path.{ap, _∙_}
-use Rattle.sim.specs.Given.{Given}
+use Rattle.lent.specs.Given.{Given}
 use Rattle.sumacadze.proofs.sumacadze_fresh.Statement.{statement}
 use Rattle.sumacadze.proofs.sumacadze_fresh.Tie as tie
 

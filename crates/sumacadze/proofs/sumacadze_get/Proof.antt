@@ -2,7 +2,7 @@
 -- Assumes nothing.
 use borrow.Author.Needs.{needs}
 use mir.Facts.{toZ-ofZ}
-use Rattle.process.specs.Parts.{machineOf}
+use Rattle.lent.specs.Parts.{machineOf}
 use Rattle.sumacadze.proofs.Numbers.{read-in-numbers}
 use Rattle.sumacadze.proofs.sumacadze_get.Statement.{statement}
 use Rattle.sumacadze.proofs.sumacadze_get.Tie as tie

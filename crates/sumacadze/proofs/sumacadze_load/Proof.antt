@@ -1,5 +1,5 @@
--- `sumacadze::sumacadze_load` meets its contract: a walk of its MIR, by hand. The header's borrow is opened and copied, `sim::warrior::load` is called on the copy, and on each slice at its own lifetime, share and name (they are given up for good),
--- the header that it returns is stored whole, its answer is told in numbers by `by_value::load_in_numbers`, and the borrow is closed.
+-- `sumacadze::sumacadze_load` meets its contract: a walk of its MIR, by hand. The header's borrow is opened and copied, `warrior::load` is called on the copy, and on each slice at its own lifetime, share and name (they are given up for good),
+-- the header that it returns is stored whole, its answer is told in numbers by `by_value::in_numbers`, and the borrow is closed.
 -- Assumes nothing.
 use Rattle.sumacadze.proofs.Thin.{_≡_, refl, [], _∷_, List, length, URA, fullShare, named, w16, w32, Val, SProp, ent, emp, via, fst∗, id⊢, ftrue, flft, fobs, fbor, fat, Memory, Routine, Heap, Calls, Loops, WpFn, Tables, Atoms, Lfts, Shares, Fun, givenOf, tables, tablesOf, Given, Item, ‵, raw, _⊛_, ⋆, some}
 use Rattle.sumacadze.proofs.Thin.{later, _$_, _∵_, !, qed, by, move, keep, drop, use1, split, join, group, pick, rewrite, fsplit, fsplit3, fjoin, fjoin3, feqI, feqL, suffices, frame, await, done, look, look-raw, init, store-raw, forget, stop, hop, fld, from, load, addr, of-opd, and-then, no-more, assigns, land, returns, enter, alloc1}
@@ -8,26 +8,27 @@ use Rattle.sumacadze.proofs.Thin.{nothing, Args, Vals, onEntry, Meets, 
 use denote.Struct.Laws as LL
 use Rattle.machine.specs.declared.Header.{Header}
 use Rattle.machine.specs.Load as loading
-use Rattle.process.specs.Parts.{machineOf}
-use Rattle.sim.specs.declared.Outcome.{Outcome}
-use Rattle.sim.specs.Given as by-value
+use Rattle.lent.specs.Parts.{machineOf}
+use Rattle.machine.specs.declared.Outcome.{Outcome}
+use Rattle.answer.specs.Numbers.{told}
+use Rattle.lent.specs.Given as by-value
 use Rattle.sumacadze.specs.declared.Report.{Report}
-use Rattle.sumacadze.proofs.Numbers.{load-in-numbers}
-use Rattle.sumacadze.proofs.Loaded.{Teller, passed, to-teller, Told, told-by, goes-teller, header-is}
+use Rattle.sumacadze.proofs.Numbers.{in-numbers}
+use Rattle.sumacadze.proofs.Played.{Teller, passed, to-teller, Told, told-by, goes-teller, header-is}
 use Rattle.machine.proofs.Header as T
 use Rattle.machine.proofs.Header.Laws as T′
-use Rattle.sim.proofs.Outcome as S
-use Rattle.sim.proofs.Outcome.Laws as S′
+use Rattle.machine.proofs.Outcome as S
+use Rattle.machine.proofs.Outcome.Laws as S′
 use Rattle.sumacadze.proofs.Report as O
 use Rattle.sumacadze.proofs.Report.Laws as O′
-use Rattle.sim.proofs.warrior.load as g
-use Rattle.sim.proofs.warrior.load.Symbol as g-def
-use Rattle.sim.proofs.warrior.load.Symbol.{name as #callee}
-use Rattle.sim.proofs.warrior.load.Met as g-thm
-use Rattle.sumacadze.proofs.by_value.load_in_numbers as t
-use Rattle.sumacadze.proofs.by_value.load_in_numbers.Symbol as t-def
-use Rattle.sumacadze.proofs.by_value.load_in_numbers.Symbol.{name as #teller}
-use Rattle.sumacadze.proofs.by_value.load_in_numbers.Met as t-thm
+use Rattle.warrior.proofs.load as g
+use Rattle.warrior.proofs.load.Symbol as g-def
+use Rattle.warrior.proofs.load.Symbol.{name as #callee}
+use Rattle.warrior.proofs.load.Met as g-thm
+use Rattle.sumacadze.proofs.by_value.in_numbers as t
+use Rattle.sumacadze.proofs.by_value.in_numbers.Symbol as t-def
+use Rattle.sumacadze.proofs.by_value.in_numbers.Symbol.{name as #teller}
+use Rattle.sumacadze.proofs.by_value.in_numbers.Met as t-thm
 use Rattle.sumacadze.proofs.sumacadze_load.Key.{name as #self}
 use Rattle.sumacadze.proofs.sumacadze_load as f
 use Rattle.sumacadze.proofs.sumacadze_load.Statement as stated
@@ -69,16 +70,22 @@ module _ {M : Type 1} (𝓤 : URA M) (H : Heap 𝓤) (A : Atoms 𝓤) (W : Given
   Ensured r zs = g.clauses 𝓤 H A at-mem run κs′ a′ .ensures tt r (atExit g.ended κs′ a′ zs)
 
   abbrev Said : Outcome → Lasts g.ended κs′ a′ → Type 0
-  Said r zs = by-value.given (r .answer) (r .writes) (zs .0) (zs .1 .0) (r .header) ≡ by-value.givenBy (loading.load (machineOf (a .0 .now) (a .1 .0 .now) (lent .now)) (a .1 .1 .1 .0 .now) (a .1 .1 .1 .1 .0 .now) (a .1 .1 .1 .1 .1 .0) (a .1 .1 .1 .1 .1 .1 .0))
+  Said r zs = by-value.given (told (r .answer)) (r .writes) (r .steps) (machineOf (zs .0) (zs .1 .0) (r .header)) ≡ by-value.givenBy (loading.load (machineOf (a .0 .now) (a .1 .0 .now) (lent .now)) (a .1 .1 .1 .0 .now) (a .1 .1 .1 .1 .0 .now) (a .1 .1 .1 .1 .1 .0) (a .1 .1 .1 .1 .1 .1 .0))
 
   -- what of the parameters goes to the callee
   abbrev given : List (Item 𝓤)
-  given = ‵ (flft (κs .0) (qs .0)) ∷ ‵ (flft (κs .1 .0) (qs .1 .0)) ∷ ‵ (flft (κs .1 .1 .1 .0) (qs .1 .1 .1 .0)) ∷ ‵ (flft (κs .1 .1 .1 .1 .0) (qs .1 .1 .1 .1 .0)) ∷ ‵ ((MutSlice (named 0) (κs .0) u64) .own (a .0) (vals .0)) ∷ ‵ ((MutSlice (named 1) (κs .1 .0) u64) .own (a .1 .0) (vals .1 .0)) ∷ ‵ ((ShrSlice (named 2) (κs .1 .1 .1 .0) u8) .own (a .1 .1 .1 .0) (vals .1 .1 .1 .0)) ∷ ‵ ((ShrSlice (named 3) (κs .1 .1 .1 .1 .0) u8) .own (a .1 .1 .1 .1 .0) (vals .1 .1 .1 .1 .0)) ∷ []
+  given =
+      ‵ (flft (κs .0) (qs .0)) ∷ ‵ (flft (κs .1 .0) (qs .1 .0)) ∷ ‵ (flft (κs .1 .1 .1 .0) (qs .1 .1 .1 .0)) ∷ ‵
+      (flft (κs .1 .1 .1 .1 .0) (qs .1 .1 .1 .1 .0)) ∷ ‵ ((MutSlice (named 0) (κs .0) u64) .own (a .0) (vals .0)) ∷ ‵
+      ((MutSlice (named 1) (κs .1 .0) u64) .own (a .1 .0) (vals .1 .0)) ∷ ‵
+      ((ShrSlice (named 2) (κs .1 .1 .1 .0) u8) .own (a .1 .1 .1 .0) (vals .1 .1 .1 .0)) ∷ ‵
+      ((ShrSlice (named 3) (κs .1 .1 .1 .1 .0) u8) .own (a .1 .1 .1 .1 .0) (vals .1 .1 .1 .1 .0)) ∷ []
 
   goes : (was : Is T.the-row (lent .now) (hval (lent .now) ∷ [])) → ent 𝓤 (⋆ 𝓤 H A given) (Callee 𝓤 H A at-mem run .pre (to was))
   goes was =
       qed W given ∵
-      nothing ! $ move ! (1 ∷ 2 ∷ 3 ∷ 4 ∷ 0 ∷ []) $ group ! 5 $ nothing ! $ owned ! u32 (Is u32) (uint-makes 𝓤 H A W w32) (a .1 .1 .1 .1 .1 .1 .0) _ (are .1 .1 .1 .1 .1 .1 .0) $ fjoin ! $ owned ! u16 (Is u16) (uint-makes 𝓤 H A W w16) (a .1 .1 .1 .1 .1 .0) _ (are .1 .1 .1 .1 .1 .0) $ fjoin ! $ move ! (5 ∷ 0 ∷ []) $ fjoin ! $ move ! (4 ∷ 0 ∷ []) $ fjoin ! $ struct-owned ! T.the-type T′.the-laws T′.the-plain (lent .now) was $ fjoin ! $ move ! (3 ∷ 0 ∷ []) $ fjoin ! $ move ! (2 ∷ 0 ∷ []) $ fjoin ! $ move ! (1 ∷ 0 ∷ []) $ join ! $ frame ! $ done !
+      nothing ! $ move ! (1 ∷ 2 ∷ 3 ∷ 4 ∷ 0 ∷ []) $ group ! 5 $ nothing ! $ owned ! u32 (Is u32) (uint-makes 𝓤 H A W w32) (a .1 .1 .1 .1 .1 .1 .0) _ (are .1 .1 .1 .1 .1 .1 .0) $ fjoin ! $ owned ! u16 (Is u16) (uint-makes 𝓤 H A W w16) (a .1 .1 .1 .1 .1 .0) _ (are .1 .1 .1 .1 .1 .0) $ fjoin ! $
+      move ! (5 ∷ 0 ∷ []) $ fjoin ! $ move ! (4 ∷ 0 ∷ []) $ fjoin ! $ struct-owned ! T.the-type T′.the-laws T′.the-plain (lent .now) was $ fjoin ! $ move ! (3 ∷ 0 ∷ []) $ fjoin ! $ move ! (2 ∷ 0 ∷ []) $ fjoin ! $ move ! (1 ∷ 0 ∷ []) $ join ! $ frame ! $ done !
 
   -- what the walk has when both have returned, the header is stored and the locals are gone
   abbrev tokens : Item 𝓤
@@ -92,18 +99,30 @@ module _ {M : Type 1} (𝓤 : URA M) (H : Heap 𝓤) (A : Atoms 𝓤) (W : Given
   exits r zs m0 m1 e q w n told =
       qed W (left r zs) ∵
       suffices ! _ (ends-at 𝓤 H A f.ended stayed (f.clauses 𝓤 H A at-mem run) W ((κs, qs, tt, a, vals), tt) (LL.val O.the-type O′.the-laws q) q (zs .0, (zs .1 .0, (r .header, (tt, (tt, (tt, (tt, tt))))))) (m0, (m1, (tt, (tt, (tt, (tt, (tt, tt)))))))) $
-      says ! (load-in-numbers (machineOf (a .0 .now) (a .1 .0 .now) (lent .now)) (a .1 .1 .1 .0 .now) (a .1 .1 .1 .1 .0 .now) (a .1 .1 .1 .1 .1 .0) (a .1 .1 .1 .1 .1 .1 .0) (r .answer) (machineOf (zs .0) (zs .1 .0) (r .header)) n e) $
-      move ! (3 ∷ []) $ split ! $ move ! (1 ∷ []) $ split ! $ move ! (1 ∷ []) $ split ! $ move ! (1 ∷ []) $ split ! $ move ! (4 ∷ 3 ∷ 7 ∷ 2 ∷ 0 ∷ 1 ∷ []) $ group ! 6 $ struct-owned ! O.the-type O′.the-laws O′.the-plain q (struct-again O.the-type O′.the-laws q w told) $ nothing ! $ nothing ! $ fjoin ! $ nothing ! $ fjoin ! $ nothing ! $ fjoin ! $ nothing ! $ fjoin ! $ move ! (3 ∷ 4 ∷ 0 ∷ []) $ feqI ! (List Val) (vals .1 .1 .0) (vals .1 .1 .0) refl $ fjoin3 ! $ fjoin ! $ move ! (4 ∷ 0 ∷ []) $ fjoin ! $ move ! (3 ∷ 0 ∷ []) $ fjoin ! $ move ! (2 ∷ 0 ∷ 1 ∷ []) $ group ! 3 $ done !
+      says ! (in-numbers (r .answer) (machineOf (zs .0) (zs .1 .0) (r .header)) n e) $
+      move ! (3 ∷ []) $ split ! $ move ! (1 ∷ []) $ split ! $ move ! (1 ∷ []) $ split ! $ move ! (1 ∷ []) $ split ! $ move ! (4 ∷ 3 ∷ 7 ∷ 2 ∷ 0 ∷ 1 ∷ []) $ group ! 6 $ struct-owned ! O.the-type O′.the-laws O′.the-plain q (struct-again O.the-type O′.the-laws q w told) $ nothing ! $ nothing ! $ fjoin ! $
+      nothing ! $ fjoin ! $ nothing ! $ fjoin ! $ nothing ! $ fjoin ! $ move ! (3 ∷ 4 ∷ 0 ∷ []) $ feqI ! (List Val) (vals .1 .1 .0) (vals .1 .1 .0) refl $ fjoin3 ! $ fjoin ! $ move ! (4 ∷ 0 ∷ []) $ fjoin ! $ move ! (3 ∷ 0 ∷ []) $ fjoin ! $ move ! (2 ∷ 0 ∷ 1 ∷ []) $ group ! 3 $ done !
 
   module _ (C : Calls 𝓤 H) (Λ : Loops 𝓤 H) (fm : FmC 𝓤 H (W .laws) C) (known : Triple 𝓤 (C #callee) (Callee 𝓤 H A at-mem run)) (teller : Triple 𝓤 (C #teller) (Teller 𝓤 H A at-mem run)) where
     walk : ent 𝓤 (onEntry 𝓤 H A f.signature κs qs a vals) (WpFn 𝓤 H C Λ code.function (only (vals .0) ∷ only (vals .1 .0) ∷ only (vals .1 .1 .0) ∷ only (vals .1 .1 .1 .0) ∷ only (vals .1 .1 .1 .1 .0) ∷ only (vals .1 .1 .1 .1 .1 .0) ∷ only (vals .1 .1 .1 .1 .1 .1 .0) ∷ []) Post)
     walk =
-        qed W ((‵ (flft (κs .0) (qs .0)) ⊛ ‵ (flft (κs .1 .0) (qs .1 .0)) ⊛ ‵ (flft (κs .1 .1 .0) (qs .1 .1 .0)) ⊛ ‵ (flft (κs .1 .1 .1 .0) (qs .1 .1 .1 .0)) ⊛ ‵ (flft (κs .1 .1 .1 .1 .0) (qs .1 .1 .1 .1 .0)) ⊛ ‵ ftrue) ∷ ‵ (owns (MutSlice (named 0) (κs .0) u64 ∷ MutSlice (named 1) (κs .1 .0) u64 ∷ MutRef (named 2) (κs .1 .1 .0) T.the-row ∷ ShrSlice (named 3) (κs .1 .1 .1 .0) u8 ∷ ShrSlice (named 4) (κs .1 .1 .1 .1 .0) u8 ∷ u16 ∷ u32 ∷ []) a vals) ∷ []) ∵
+        qed W
+        ((‵ (flft (κs .0) (qs .0)) ⊛ ‵ (flft (κs .1 .0) (qs .1 .0)) ⊛ ‵ (flft (κs .1 .1 .0) (qs .1 .1 .0)) ⊛ ‵ (flft (κs .1 .1 .1 .0) (qs .1 .1 .1 .0)) ⊛ ‵
+        (flft (κs .1 .1 .1 .1 .0) (qs .1 .1 .1 .1 .0)) ⊛ ‵ ftrue)
+        ∷ ‵
+        (owns
+        (MutSlice (named 0) (κs .0) u64 ∷ MutSlice (named 1) (κs .1 .0) u64 ∷ MutRef (named 2) (κs .1 .1 .0) T.the-row ∷ ShrSlice (named 3) (κs .1 .1 .1 .0) u8
+        ∷ ShrSlice (named 4) (κs .1 .1 .1 .1 .0) u8 ∷ u16 ∷ u32 ∷ [])
+        a vals)
+        ∷ [])
+        ∵
         enter ! C Λ code.function _ _ $
         alloc1 ! (λ l0. alloc1 ! (λ l1. alloc1 ! (λ l2. alloc1 ! (λ l3. alloc1 ! (λ l4. alloc1 ! (λ l5. alloc1 ! (λ l6. alloc1 ! (λ l7. alloc1 ! (λ l8. alloc1 ! (λ l9. alloc1 ! (λ l10. alloc1 ! (λ l11. alloc1 ! (λ l12. alloc1 ! (λ l13. alloc0 ! $ params1 ! $
-        pass1 ! (init ! 24 refl (tt, (tt, (record { fits = are .0 .0 .1 .0 }, tt)))) $ pass1 ! (init ! 22 refl (tt, (tt, (record { fits = are .1 .0 .0 .1 .0 }, tt)))) $ pass1 ! (init ! 20 refl (tt, tt)) $ pass1 ! (init ! 18 refl (tt, (tt, (record { fits = are .1 .1 .1 .0 .0 .1 .0 }, tt)))) $ pass1 ! (init ! 16 refl (tt, (tt, (record { fits = are .1 .1 .1 .1 .0 .0 .1 .0 }, tt)))) $ pass1 ! (init ! 14 refl (tt, record { fits = are .1 .1 .1 .1 .1 .0 .1 })) $ pass1 ! (init ! 12 refl (tt, record { fits = are .1 .1 .1 .1 .1 .1 .0 .1 })) $ pass0 ! $
+        pass1 ! (init ! 24 refl (tt, (tt, (record { fits = are .0 .0 .1 .0 }, tt)))) $ pass1 ! (init ! 22 refl (tt, (tt, (record { fits = are .1 .0 .0 .1 .0 }, tt)))) $ pass1 ! (init ! 20 refl (tt, tt)) $ pass1 ! (init ! 18 refl (tt, (tt, (record { fits = are .1 .1 .1 .0 .0 .1 .0 }, tt)))) $
+        pass1 ! (init ! 16 refl (tt, (tt, (record { fits = are .1 .1 .1 .1 .0 .0 .1 .0 }, tt)))) $ pass1 ! (init ! 14 refl (tt, record { fits = are .1 .1 .1 .1 .1 .0 .1 })) $ pass1 ! (init ! 12 refl (tt, record { fits = are .1 .1 .1 .1 .1 .1 .0 .1 })) $ pass0 ! $
         -- the parameters are taken apart, and the header's borrow is opened
-        move ! (29 ∷ []) $ fsplit ! $ move ! (1 ∷ []) $ fsplit ! $ move ! (1 ∷ []) $ fsplit ! $ move ! (1 ∷ []) $ fsplit ! $ move ! (1 ∷ []) $ fsplit ! $ move ! (1 ∷ []) $ fsplit ! $ move ! (1 ∷ []) $ fsplit ! $ move ! (5 ∷ []) $ fsplit3 ! $ drop ! $ move ! (37 ∷ []) $ split ! $ move ! (1 ∷ []) $ split ! $ move ! (1 ∷ []) $ split ! $ move ! (1 ∷ []) $ split ! $ move ! (1 ∷ []) $ split ! $ move ! (6 ∷ 7 ∷ 3 ∷ []) $ header-opens ! tt lent (λ was.
+        move ! (29 ∷ []) $ fsplit ! $ move ! (1 ∷ []) $ fsplit ! $ move ! (1 ∷ []) $ fsplit ! $ move ! (1 ∷ []) $ fsplit ! $ move ! (1 ∷ []) $ fsplit ! $ move ! (1 ∷ []) $ fsplit ! $ move ! (1 ∷ []) $ fsplit ! $ move ! (5 ∷ []) $ fsplit3 ! $ drop ! $ move ! (37 ∷ []) $ split ! $ move ! (1 ∷ []) $ split ! $
+        move ! (1 ∷ []) $ split ! $ move ! (1 ∷ []) $ split ! $ move ! (1 ∷ []) $ split ! $ move ! (6 ∷ 7 ∷ 3 ∷ []) $ header-opens ! tt lent (λ was.
         -- in the order of the arguments: each `&mut [u64]` is lent on, at its own lifetime, and the header is copied
         assigns ! (addr ! (from ! (fld ! refl (hop ! (look-in ! 40 (sub ! 0 refl (whole !))) (stop !))))) (from ! (stop !)) (init ! 24 refl (tt, tt)) $
         assigns ! (agg ! (and-then ! (load ! (from ! (stop !)) (look ! 24 refl)) (and-then ! (load ! (from ! (fld ! refl (stop !))) (look-in ! 40 (sub ! 1 refl (whole !)))) (no-more !)))) (from ! (stop !)) (init ! 22 refl (tt, (tt, (record { fits = are .0 .0 .1 .0 }, tt)))) $
@@ -112,17 +131,24 @@ module _ {M : Type 1} (𝓤 : URA M) (H : Heap 𝓤) (A : Atoms 𝓤) (W : Given
         assigns ! (of-opd ! (load ! (from ! (hop ! (look ! 36 refl) (stop !))) (look-raw ! 0 refl))) (from ! (stop !)) (init ! 16 refl (struct-typed 𝓤 H A W T.the-type T′.the-laws (lent .now) _ was)) $
         -- the call
         move ! (8 ∷ 7 ∷ 6 ∷ 4 ∷ 15 ∷ 14 ∷ 13 ∷ 12 ∷ []) $ group ! 8 $ use1 W (raw (Callee 𝓤 H A at-mem run .pre (to was))) (goes was) $
-        calls-at ! fm (Callee 𝓤 H A at-mem run) known (to was) (and-then ! (load ! (from ! (stop !)) (look ! 15 refl)) (and-then ! (load ! (from ! (stop !)) (look ! 11 refl)) (and-then ! (load ! (from ! (stop !)) (look ! 9 refl)) (and-then ! (load ! (from ! (stop !)) (look ! 27 refl)) (and-then ! (load ! (from ! (stop !)) (look ! 25 refl)) (and-then ! (load ! (from ! (stop !)) (look ! 23 refl)) (and-then ! (load ! (from ! (stop !)) (look ! 21 refl)) (no-more !)))))))) (λ v.
+        calls-at ! fm (Callee 𝓤 H A at-mem run) known (to was)
+        (and-then ! (load ! (from ! (stop !)) (look ! 15 refl))
+        (and-then ! (load ! (from ! (stop !)) (look ! 11 refl))
+        (and-then ! (load ! (from ! (stop !)) (look ! 9 refl))
+        (and-then ! (load ! (from ! (stop !)) (look ! 27 refl))
+        (and-then ! (load ! (from ! (stop !)) (look ! 25 refl))
+        (and-then ! (load ! (from ! (stop !)) (look ! 23 refl)) (and-then ! (load ! (from ! (stop !)) (look ! 21 refl)) (no-more !))))))))
+        (λ v.
         use1 W (later (some (λ (r : Outcome). (tokens ⊛ ‵ (S.the-row .own r (v ∷ []))) ⊛ some (λ (zs : Lasts g.ended κs′ a′). ‵ (lasts g.ended κs′ a′ zs) ⊛ raw (Ensured r zs))))) (id⊢ 𝓤 _) $ await ! tt $ pick ! (λ r.
         split ! $ move ! (1 ∷ []) $ pick ! (λ zs.
         split ! $ move ! (1 ∷ []) $ heard ! (Said r zs) (λ e. fsplit ! $ fsplit ! $ move ! (1 ∷ []) $ feqL ! (λ m0. move ! (1 ∷ []) $ fsplit ! $ fsplit ! $ move ! (1 ∷ []) $ feqL ! (λ m1.
         move ! (3 ∷ []) $ split ! $ move ! (1 ∷ []) $ peeks ! S.the-row (Is S.the-row) (shows 𝓤 H A S.the-row) r (v ∷ []) (λ is.
         land ! (from ! (stop !)) (init ! 23 refl (struct-typed 𝓤 H A W S.the-type S′.the-laws r v is)) $ rewrite ! 23 (λ (u : Val). ‵ (fat fullShare S′.mir l8 0 u)) (struct-is S.the-type S′.the-laws r v is) refl $
         -- the header is stored whole
-        assigns ! (of-opd ! (load ! (from ! (fld ! refl (stop !))) (look-in ! 23 (sub ! 2 refl (whole !))))) (from ! (hop ! (look ! 33 refl) (stop !))) (store-raw ! 5 refl (struct-typed 𝓤 H A W T.the-type T′.the-laws (r .header) _ (header-is r v is))) $
+        assigns ! (of-opd ! (load ! (from ! (fld ! refl (stop !))) (look-in ! 23 (sub ! 3 refl (whole !))))) (from ! (hop ! (look ! 33 refl) (stop !))) (store-raw ! 5 refl (struct-typed 𝓤 H A W T.the-type T′.the-laws (r .header) _ (header-is r v is))) $
         -- the answer is told in numbers, into the result
         nothing ! $ nothing ! $ group ! 2 $ use1 W (raw (Teller 𝓤 H A at-mem run .pre (to-teller 𝓤 H A at-mem run r))) (goes-teller 𝓤 H A W at-mem run r v is) $
-        calls-at ! fm (Teller 𝓤 H A at-mem run) teller (to-teller 𝓤 H A at-mem run r) (and-then ! (load ! (from ! (fld ! refl (stop !))) (look-in ! 24 (sub ! 0 refl (whole !)))) (and-then ! (load ! (from ! (fld ! refl (stop !))) (look-in ! 24 (sub ! 1 refl (whole !)))) (no-more !))) (λ w.
+        calls-at ! fm (Teller 𝓤 H A at-mem run) teller (to-teller 𝓤 H A at-mem run r) (and-then ! (load ! (from ! (fld ! refl (stop !))) (look-in ! 24 (sub ! 0 refl (whole !)))) (and-then ! (load ! (from ! (fld ! refl (stop !))) (look-in ! 24 (sub ! 1 refl (whole !)))) (and-then ! (load ! (from ! (fld ! refl (stop !))) (look-in ! 24 (sub ! 2 refl (whole !)))) (no-more !)))) (λ w.
         use1 W (later (some (λ (q : Report). (‵ ftrue ⊛ ‵ (O.the-row .own q (w ∷ []))) ⊛ some (λ (ws : Lasts t.ended tt (passed r)). ‵ (lasts t.ended tt (passed r) ws) ⊛ raw (Told 𝓤 H A at-mem run r q ws))))) (id⊢ 𝓤 _) $ await ! tt $ pick ! (λ q.
         split ! $ move ! (1 ∷ []) $ pick ! (λ ws.
         split ! $ move ! (1 ∷ []) $ heard ! (q ≡ told-by r) (λ n.
@@ -131,15 +157,33 @@ module _ {M : Type 1} (𝓤 : URA M) (H : Heap 𝓤) (A : Atoms 𝓤) (W : Given
         -- the borrow is closed
         move ! (8 ∷ 9 ∷ 10 ∷ 11 ∷ []) $ header-closes ! tt lent (r .header) (header-is r v is) $
         returns ! (look ! 41 refl) $ forget ! 15 refl $ forget ! 17 refl $ forget ! 19 refl $ forget ! 21 refl $ forget ! 23 refl $ forget ! 25 refl $ forget ! 27 refl $ forget ! 29 refl $ forget ! 31 refl $ forget ! 33 refl $ forget ! 35 refl $ forget ! 37 refl $ forget ! 39 refl $ forget ! 41 refl $
-        move ! (41 ∷ 42 ∷ []) $ free1 ! $ move ! (39 ∷ 40 ∷ []) $ free1 ! $ move ! (37 ∷ 38 ∷ []) $ free1 ! $ move ! (35 ∷ 36 ∷ []) $ free1 ! $ move ! (33 ∷ 34 ∷ []) $ free1 ! $ move ! (31 ∷ 32 ∷ []) $ free1 ! $ move ! (29 ∷ 30 ∷ []) $ free1 ! $ move ! (27 ∷ 28 ∷ []) $ free1 ! $ move ! (25 ∷ 26 ∷ []) $ free1 ! $ move ! (23 ∷ 24 ∷ []) $ free1 ! $ move ! (21 ∷ 22 ∷ []) $ free1 ! $ move ! (19 ∷ 20 ∷ []) $ free1 ! $ move ! (17 ∷ 18 ∷ []) $ free1 ! $ move ! (15 ∷ 16 ∷ []) $ free1 ! $ free0 ! $
+        move ! (41 ∷ 42 ∷ []) $ free1 ! $ move ! (39 ∷ 40 ∷ []) $ free1 ! $ move ! (37 ∷ 38 ∷ []) $ free1 ! $ move ! (35 ∷ 36 ∷ []) $ free1 ! $ move ! (33 ∷ 34 ∷ []) $ free1 ! $ move ! (31 ∷ 32 ∷ []) $ free1 ! $ move ! (29 ∷ 30 ∷ []) $ free1 ! $ move ! (27 ∷ 28 ∷ []) $ free1 ! $ move ! (25 ∷ 26 ∷ []) $
+        free1 ! $ move ! (23 ∷ 24 ∷ []) $ free1 ! $ move ! (21 ∷ 22 ∷ []) $ free1 ! $ move ! (19 ∷ 20 ∷ []) $ free1 ! $ move ! (17 ∷ 18 ∷ []) $ free1 ! $ move ! (15 ∷ 16 ∷ []) $ free1 ! $ free0 ! $
         keep ! (0 ∷ 1 ∷ 2 ∷ 7 ∷ 10 ∷ 8 ∷ []) $ by ! (exits r zs m0 m1 e q w n told))))))))))))))))))))))))))))
 
 meets : {M : Type 1} (𝓤 : URA M) (H : Heap 𝓤) (A : Atoms 𝓤) → Given 𝓤 H A → (mem : Memory → SProp 𝓤) (run : Routine → Fun 𝓤) (𝓣 : Tables 𝓤 H) → Triple 𝓤 (𝓣 .C #callee) (Callee 𝓤 H A mem run) → Triple 𝓤 (𝓣 .C #teller) (Teller 𝓤 H A mem run)
     → Meets 𝓤 H A f.signature (WpFn 𝓤 H (𝓣 .C) (𝓣 .Λ) code.function) (f.spec 𝓤 H A mem run)
 meets 𝓤 H A W mem run 𝓣 known teller =
-    walk-meets 𝓤 H A f.ended stayed W (goes-gave-slice 𝓤 H A W 5 0 tt (plain (λ _. u64)), (goes-gave-slice 𝓤 H A W 5 1 tt (plain (λ _. u64)), (goes-ref 𝓤 H A W 5 2 tt (plain (λ _. T.the-row)), (goes-dropped 𝓤 H A W 5 (shrSliceOf (3 ∷ []) tt (plain (λ _. u8))) yes (λ κs x f. refl), (goes-dropped 𝓤 H A W 5 (shrSliceOf (4 ∷ []) tt (plain (λ _. u8))) yes (λ κs x f. refl), (goes-dropped 𝓤 H A W 5 (plain (λ _. u16)) yes (λ κs x f. refl), (goes-dropped 𝓤 H A W 5 (plain (λ _. u32)) yes (λ κs x f. refl), tt))))))) (f.clauses 𝓤 H A mem run)
+    walk-meets 𝓤 H A f.ended stayed W (
+      goes-gave-slice 𝓤 H A W 5 0 tt (plain (λ _. u64)),
+      (
+        goes-gave-slice 𝓤 H A W 5 1 tt (plain (λ _. u64)),
+        (
+          goes-ref 𝓤 H A W 5 2 tt (plain (λ _. T.the-row)),
+          (
+            goes-dropped 𝓤 H A W 5 (shrSliceOf (3 ∷ []) tt (plain (λ _. u8))) yes (λ κs x f. refl),
+            (
+              goes-dropped 𝓤 H A W 5 (shrSliceOf (4 ∷ []) tt (plain (λ _. u8))) yes (λ κs x f. refl),
+              (goes-dropped 𝓤 H A W 5 (plain (λ _. u16)) yes (λ κs x f. refl), (goes-dropped 𝓤 H A W 5 (plain (λ _. u32)) yes (λ κs x f. refl), tt)),
+            ),
+          ),
+        ),
+      ),
+    )
+    (f.clauses 𝓤 H A mem run)
     (WpFn 𝓤 H (𝓣 .C) (𝓣 .Λ) code.function) (WpFn-mono 𝓤 H (W .laws) 𝓣 code.function)
-    (walked 𝓤 H A f.ended stayed (f.clauses 𝓤 H A mem run) (WpFn 𝓤 H (𝓣 .C) (𝓣 .Λ) code.function) (λ κs. (slice-vals, (slice-vals, (ptr-vals, (slice-vals, (slice-vals, (uint-vals w16, (uint-vals w32, tt)))))))) (λ κs. (mut-slice-tells (named 0) (κs .0) u64, (mut-slice-tells (named 1) (κs .1 .0) u64, (mut-tells (named 2) (κs .1 .1 .0) T.the-row, (shr-slice-tells (named 3) (κs .1 .1 .1 .0) u8, (shr-slice-tells (named 4) (κs .1 .1 .1 .1 .0) u8, (uint-tells w16, (uint-tells w32, tt))))))))
+    (walked 𝓤 H A f.ended stayed (f.clauses 𝓤 H A mem run) (WpFn 𝓤 H (𝓣 .C) (𝓣 .Λ) code.function) (λ κs. (slice-vals, (slice-vals, (ptr-vals, (slice-vals, (slice-vals, (uint-vals w16, (uint-vals w32, tt))))))))
+    (λ κs. (mut-slice-tells (named 0) (κs .0) u64, (mut-slice-tells (named 1) (κs .1 .0) u64, (mut-tells (named 2) (κs .1 .1 .0) T.the-row, (shr-slice-tells (named 3) (κs .1 .1 .1 .0) u8, (shr-slice-tells (named 4) (κs .1 .1 .1 .1 .0) u8, (uint-tells w16, (uint-tells w32, tt))))))))
     (λ κs qs bounds a g are. via 𝓤 _ (fst∗ 𝓤 _ (emp 𝓤)) (walk 𝓤 H A W mem run κs qs a are (𝓣 .C) (𝓣 .Λ) (fmOf 𝓤 H (W .laws) 𝓣) known teller)))
 
 pub sumacadze-load-spec : {M : Type 1} → stated.statement M
@@ -148,5 +192,5 @@ sumacadze-load-spec 𝓤 H 𝓜 𝓖 𝓡 =
     entered 𝓤 H (tripleOf 𝓤 H (𝓖 .A) f.signature (f.spec 𝓤 H (𝓖 .A) (𝓜 .mem) (𝓡 .run)))
     (tables 𝓤 H 𝓜 𝓡 code.env .C) (tables 𝓤 H 𝓜 𝓡 code.env .Λ) #self code.function (code.unfolded 𝓤 H 𝓜 𝓡)
     (meets 𝓤 H (𝓖 .A) (givenOf 𝓤 H 𝓜 𝓖) (𝓜 .mem) (𝓡 .run) (tablesOf 𝓤 H 𝓜 (tables 𝓤 H 𝓜 𝓡 code.env))
-    (cited 𝓤 H (Callee 𝓤 H (𝓖 .A) (𝓜 .mem) (𝓡 .run)) 𝓜 𝓡 code.env #callee g-def.routine code.calls-sim·warrior·load (g-thm.met 𝓤 H 𝓜 𝓖 𝓡))
-    (cited 𝓤 H (Teller 𝓤 H (𝓖 .A) (𝓜 .mem) (𝓡 .run)) 𝓜 𝓡 code.env #teller t-def.routine code.calls-sumacadze·by-value·load-in-numbers (t-thm.met 𝓤 H 𝓜 𝓖 𝓡)))
+    (cited 𝓤 H (Callee 𝓤 H (𝓖 .A) (𝓜 .mem) (𝓡 .run)) 𝓜 𝓡 code.env #callee g-def.routine code.calls-warrior·load (g-thm.met 𝓤 H 𝓜 𝓖 𝓡))
+    (cited 𝓤 H (Teller 𝓤 H (𝓖 .A) (𝓜 .mem) (𝓡 .run)) 𝓜 𝓡 code.env #teller t-def.routine code.calls-sumacadze·by-value·in-numbers (t-thm.met 𝓤 H 𝓜 𝓖 𝓡)))

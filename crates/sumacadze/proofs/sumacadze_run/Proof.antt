@@ -8,17 +8,18 @@ use Rattle.sumacadze.proofs.Thin.{onEntry, Meets, tripleOf, Contract, T
 use denote.Struct.Laws as LL
 use Rattle.machine.specs.declared.Header.{Header}
 use Rattle.machine.specs.Run as running
-use Rattle.process.specs.Parts.{machineOf}
-use Rattle.cycle.specs.declared.Outcome.{Outcome}
-use Rattle.cycle.specs.Given as by-value
+use Rattle.lent.specs.Parts.{machineOf}
+use Rattle.machine.specs.declared.Outcome.{Outcome}
+use Rattle.answer.specs.Numbers.{told}
+use Rattle.lent.specs.Given as by-value
 use Rattle.sumacadze.specs.declared.Report.{Report}
 use Rattle.sumacadze.specs.Report.{ceilingIf}
-use Rattle.sumacadze.proofs.Numbers.{played-in-numbers}
+use Rattle.sumacadze.proofs.Numbers.{in-numbers}
 use Rattle.sumacadze.proofs.Played.{Teller, passed, to-teller, Told, told-by, goes-teller, header-is}
 use Rattle.machine.proofs.Header as T
 use Rattle.machine.proofs.Header.Laws as T′
-use Rattle.cycle.proofs.Outcome as S
-use Rattle.cycle.proofs.Outcome.Laws as S′
+use Rattle.machine.proofs.Outcome as S
+use Rattle.machine.proofs.Outcome.Laws as S′
 use Rattle.sumacadze.proofs.Report as O
 use Rattle.sumacadze.proofs.Report.Laws as O′
 use Rattle.sumacadze.proofs.by_value.run as g
@@ -70,7 +71,7 @@ module _ {M : Type 1} (𝓤 : URA M) (H : Heap 𝓤) (A : Atoms 𝓤) (W : Given
   Ensured r zs = g.clauses 𝓤 H A at-mem run κs′ a′ .ensures tt r (atExit g.ended κs′ a′ zs)
 
   abbrev Said : Outcome → Lasts g.ended κs′ a′ → Type 0
-  Said r zs = by-value.given (r .answer) (r .writes) (r .steps) (machineOf (zs .0) (zs .1 .0) (r .header)) ≡ by-value.givenBy (running.run (ceilingIf (a .1 .1 .1 .0) (a .1 .1 .1 .1 .0)) (machineOf (a .0 .now) (a .1 .0 .now) (lent .now)))
+  Said r zs = by-value.given (told (r .answer)) (r .writes) (r .steps) (machineOf (zs .0) (zs .1 .0) (r .header)) ≡ by-value.givenBy (running.run (ceilingIf (a .1 .1 .1 .0) (a .1 .1 .1 .1 .0)) (machineOf (a .0 .now) (a .1 .0 .now) (lent .now)))
 
   -- what of the parameters goes to the callee
   abbrev given : List (Item 𝓤)
@@ -79,7 +80,8 @@ module _ {M : Type 1} (𝓤 : URA M) (H : Heap 𝓤) (A : Atoms 𝓤) (W : Given
   goes : (was : Is T.the-row (lent .now) (hval (lent .now) ∷ [])) → ent 𝓤 (⋆ 𝓤 H A given) (Callee 𝓤 H A at-mem run .pre (to was))
   goes was =
       qed W given ∵
-      nothing ! $ move ! (1 ∷ 2 ∷ 0 ∷ []) $ group ! 3 $ nothing ! $ owned ! u64 (Is u64) (uint-makes 𝓤 H A W w64) (a .1 .1 .1 .1 .0) _ (are .1 .1 .1 .1 .0) $ fjoin ! $ owned ! bool (Is bool) (bool-makes 𝓤 H A W) (a .1 .1 .1 .0) _ (are .1 .1 .1 .0) $ fjoin ! $ struct-owned ! T.the-type T′.the-laws T′.the-plain (lent .now) was $ fjoin ! $ move ! (3 ∷ 0 ∷ []) $ fjoin ! $ move ! (2 ∷ 0 ∷ []) $ fjoin ! $ move ! (1 ∷ 0 ∷ []) $ join ! $ frame ! $ done !
+      nothing ! $ move ! (1 ∷ 2 ∷ 0 ∷ []) $ group ! 3 $ nothing ! $ owned ! u64 (Is u64) (uint-makes 𝓤 H A W w64) (a .1 .1 .1 .1 .0) _ (are .1 .1 .1 .1 .0) $ fjoin ! $ owned ! bool (Is bool) (bool-makes 𝓤 H A W) (a .1 .1 .1 .0) _ (are .1 .1 .1 .0) $ fjoin ! $
+      struct-owned ! T.the-type T′.the-laws T′.the-plain (lent .now) was $ fjoin ! $ move ! (3 ∷ 0 ∷ []) $ fjoin ! $ move ! (2 ∷ 0 ∷ []) $ fjoin ! $ move ! (1 ∷ 0 ∷ []) $ join ! $ frame ! $ done !
 
   -- what the walk has when both have returned, the header is stored and the locals are gone
   abbrev tokens : Item 𝓤
@@ -93,8 +95,9 @@ module _ {M : Type 1} (𝓤 : URA M) (H : Heap 𝓤) (A : Atoms 𝓤) (W : Given
   exits r zs m0 m1 e q w n told =
       qed W (left r zs) ∵
       suffices ! _ (ends-at 𝓤 H A f.ended stayed (f.clauses 𝓤 H A at-mem run) W ((κs, qs, tt, a, vals), tt) (LL.val O.the-type O′.the-laws q) q (zs .0, (zs .1 .0, (r .header, (tt, (tt, tt))))) (m0, (m1, (tt, (tt, (tt, tt)))))) $
-      says ! (played-in-numbers (r .answer) (machineOf (zs .0) (zs .1 .0) (r .header)) n e) $
-      move ! (3 ∷ []) $ split ! $ move ! (1 ∷ []) $ split ! $ move ! (2 ∷ 0 ∷ 5 ∷ 1 ∷ []) $ group ! 4 $ struct-owned ! O.the-type O′.the-laws O′.the-plain q (struct-again O.the-type O′.the-laws q w told) $ nothing ! $ nothing ! $ fjoin ! $ nothing ! $ fjoin ! $ move ! (3 ∷ 4 ∷ 0 ∷ []) $ feqI ! (List Val) (vals .1 .1 .0) (vals .1 .1 .0) refl $ fjoin3 ! $ fjoin ! $ move ! (4 ∷ 0 ∷ []) $ fjoin ! $ move ! (3 ∷ 0 ∷ []) $ fjoin ! $ move ! (2 ∷ 0 ∷ 1 ∷ []) $ group ! 3 $ done !
+      says ! (in-numbers (r .answer) (machineOf (zs .0) (zs .1 .0) (r .header)) n e) $
+      move ! (3 ∷ []) $ split ! $ move ! (1 ∷ []) $ split ! $ move ! (2 ∷ 0 ∷ 5 ∷ 1 ∷ []) $ group ! 4 $ struct-owned ! O.the-type O′.the-laws O′.the-plain q (struct-again O.the-type O′.the-laws q w told) $ nothing ! $ nothing ! $ fjoin ! $ nothing ! $ fjoin ! $ move ! (3 ∷ 4 ∷ 0 ∷ []) $
+      feqI ! (List Val) (vals .1 .1 .0) (vals .1 .1 .0) refl $ fjoin3 ! $ fjoin ! $ move ! (4 ∷ 0 ∷ []) $ fjoin ! $ move ! (3 ∷ 0 ∷ []) $ fjoin ! $ move ! (2 ∷ 0 ∷ 1 ∷ []) $ group ! 3 $ done !
 
   module _ (C : Calls 𝓤 H) (Λ : Loops 𝓤 H) (fm : FmC 𝓤 H (W .laws) C) (known : Triple 𝓤 (C #callee) (Callee 𝓤 H A at-mem run)) (teller : Triple 𝓤 (C #teller) (Teller 𝓤 H A at-mem run)) where
     walk : ent 𝓤 (onEntry 𝓤 H A f.signature κs qs a vals) (WpFn 𝓤 H C Λ code.function (only (vals .0) ∷ only (vals .1 .0) ∷ only (vals .1 .1 .0) ∷ only (vals .1 .1 .1 .0) ∷ only (vals .1 .1 .1 .1 .0) ∷ []) Post)
@@ -132,7 +135,8 @@ module _ {M : Type 1} (𝓤 : URA M) (H : Heap 𝓤) (A : Atoms 𝓤) (W : Given
         -- the borrow is closed
         move ! (8 ∷ 9 ∷ 10 ∷ 11 ∷ []) $ header-closes ! tt lent (r .header) (header-is r v is) $
         returns ! (look ! 37 refl) $ forget ! 15 refl $ forget ! 17 refl $ forget ! 19 refl $ forget ! 21 refl $ forget ! 23 refl $ forget ! 25 refl $ forget ! 27 refl $ forget ! 29 refl $ forget ! 31 refl $ forget ! 33 refl $ forget ! 35 refl $ forget ! 37 refl $
-        move ! (37 ∷ 38 ∷ []) $ free1 ! $ move ! (35 ∷ 36 ∷ []) $ free1 ! $ move ! (33 ∷ 34 ∷ []) $ free1 ! $ move ! (31 ∷ 32 ∷ []) $ free1 ! $ move ! (29 ∷ 30 ∷ []) $ free1 ! $ move ! (27 ∷ 28 ∷ []) $ free1 ! $ move ! (25 ∷ 26 ∷ []) $ free1 ! $ move ! (23 ∷ 24 ∷ []) $ free1 ! $ move ! (21 ∷ 22 ∷ []) $ free1 ! $ move ! (19 ∷ 20 ∷ []) $ free1 ! $ move ! (17 ∷ 18 ∷ []) $ free1 ! $ move ! (15 ∷ 16 ∷ []) $ free1 ! $ free0 ! $
+        move ! (37 ∷ 38 ∷ []) $ free1 ! $ move ! (35 ∷ 36 ∷ []) $ free1 ! $ move ! (33 ∷ 34 ∷ []) $ free1 ! $ move ! (31 ∷ 32 ∷ []) $ free1 ! $ move ! (29 ∷ 30 ∷ []) $ free1 ! $ move ! (27 ∷ 28 ∷ []) $ free1 ! $ move ! (25 ∷ 26 ∷ []) $ free1 ! $ move ! (23 ∷ 24 ∷ []) $ free1 ! $ move ! (21 ∷ 22 ∷ []) $
+        free1 ! $ move ! (19 ∷ 20 ∷ []) $ free1 ! $ move ! (17 ∷ 18 ∷ []) $ free1 ! $ move ! (15 ∷ 16 ∷ []) $ free1 ! $ free0 ! $
         keep ! (0 ∷ 1 ∷ 2 ∷ 7 ∷ 10 ∷ 8 ∷ []) $ by ! (exits r zs m0 m1 e q w n told))))))))))))))))))))))))))
 
 meets : {M : Type 1} (𝓤 : URA M) (H : Heap 𝓤) (A : Atoms 𝓤) → Given 𝓤 H A → (mem : Memory → SProp 𝓤) (run : Routine → Fun 𝓤) (𝓣 : Tables 𝓤 H) → Triple 𝓤 (𝓣 .C #callee) (Callee 𝓤 H A mem run) → Triple 𝓤 (𝓣 .C #teller) (Teller 𝓤 H A mem run)

@@ -8,16 +8,17 @@ use Rattle.sumacadze.proofs.Thin.{entered, cited, says, Stays, stay-ref
 use denote.Struct.Laws as LL
 use Rattle.machine.specs.declared.Header.{Header}
 use Rattle.machine.specs.Step.{step}
-use Rattle.process.specs.Parts.{machineOf}
-use Rattle.cycle.specs.declared.Outcome.{Outcome}
-use Rattle.cycle.specs.Given as by-value
+use Rattle.lent.specs.Parts.{machineOf}
+use Rattle.machine.specs.declared.Outcome.{Outcome}
+use Rattle.answer.specs.Numbers.{told}
+use Rattle.lent.specs.Given as by-value
 use Rattle.sumacadze.specs.declared.Report.{Report}
-use Rattle.sumacadze.proofs.Numbers.{played-in-numbers}
+use Rattle.sumacadze.proofs.Numbers.{in-numbers}
 use Rattle.sumacadze.proofs.Played.{Teller, passed, to-teller, Told, told-by, goes-teller, header-is}
 use Rattle.machine.proofs.Header as T
 use Rattle.machine.proofs.Header.Laws as T′
-use Rattle.cycle.proofs.Outcome as S
-use Rattle.cycle.proofs.Outcome.Laws as S′
+use Rattle.machine.proofs.Outcome as S
+use Rattle.machine.proofs.Outcome.Laws as S′
 use Rattle.sumacadze.proofs.Report as O
 use Rattle.sumacadze.proofs.Report.Laws as O′
 use Rattle.cycle.proofs.step as g
@@ -69,7 +70,7 @@ module _ {M : Type 1} (𝓤 : URA M) (H : Heap 𝓤) (A : Atoms 𝓤) (W : Given
   Ensured r zs = g.clauses 𝓤 H A at-mem run κs′ a′ .ensures tt r (atExit g.ended κs′ a′ zs)
 
   abbrev Said : Outcome → Lasts g.ended κs′ a′ → Type 0
-  Said r zs = by-value.given (r .answer) (r .writes) (r .steps) (machineOf (zs .0) (zs .1 .0) (r .header)) ≡ by-value.givenBy (step (machineOf (a .0 .now) (a .1 .0 .now) (lent .now)))
+  Said r zs = by-value.given (told (r .answer)) (r .writes) (r .steps) (machineOf (zs .0) (zs .1 .0) (r .header)) ≡ by-value.givenBy (step (machineOf (a .0 .now) (a .1 .0 .now) (lent .now)))
 
   -- what of the parameters goes to the callee
   abbrev given : List (Item 𝓤)
@@ -92,8 +93,9 @@ module _ {M : Type 1} (𝓤 : URA M) (H : Heap 𝓤) (A : Atoms 𝓤) (W : Given
   exits r zs m0 m1 e q w n told =
       qed W (left r zs) ∵
       suffices ! _ (ends-at 𝓤 H A f.ended stayed (f.clauses 𝓤 H A at-mem run) W ((κs, qs, tt, a, vals), tt) (LL.val O.the-type O′.the-laws q) q (zs .0, (zs .1 .0, (r .header, tt))) (m0, (m1, (tt, tt)))) $
-      says ! (played-in-numbers (r .answer) (machineOf (zs .0) (zs .1 .0) (r .header)) n e) $
-      move ! (3 ∷ []) $ split ! $ move ! (1 ∷ []) $ split ! $ move ! (2 ∷ 0 ∷ 5 ∷ 1 ∷ []) $ group ! 4 $ struct-owned ! O.the-type O′.the-laws O′.the-plain q (struct-again O.the-type O′.the-laws q w told) $ nothing ! $ move ! (3 ∷ 4 ∷ 0 ∷ []) $ feqI ! (List Val) (vals .1 .1 .0) (vals .1 .1 .0) refl $ fjoin3 ! $ fjoin ! $ move ! (4 ∷ 0 ∷ []) $ fjoin ! $ move ! (3 ∷ 0 ∷ []) $ fjoin ! $ move ! (2 ∷ 0 ∷ 1 ∷ []) $ group ! 3 $ done !
+      says ! (in-numbers (r .answer) (machineOf (zs .0) (zs .1 .0) (r .header)) n e) $
+      move ! (3 ∷ []) $ split ! $ move ! (1 ∷ []) $ split ! $ move ! (2 ∷ 0 ∷ 5 ∷ 1 ∷ []) $ group ! 4 $ struct-owned ! O.the-type O′.the-laws O′.the-plain q (struct-again O.the-type O′.the-laws q w told) $ nothing ! $ move ! (3 ∷ 4 ∷ 0 ∷ []) $ feqI ! (List Val) (vals .1 .1 .0) (vals .1 .1 .0) refl $
+      fjoin3 ! $ fjoin ! $ move ! (4 ∷ 0 ∷ []) $ fjoin ! $ move ! (3 ∷ 0 ∷ []) $ fjoin ! $ move ! (2 ∷ 0 ∷ 1 ∷ []) $ group ! 3 $ done !
 
   module _ (C : Calls 𝓤 H) (Λ : Loops 𝓤 H) (fm : FmC 𝓤 H (W .laws) C) (known : Triple 𝓤 (C #callee) (Callee 𝓤 H A at-mem run)) (teller : Triple 𝓤 (C #teller) (Teller 𝓤 H A at-mem run)) where
     walk : ent 𝓤 (onEntry 𝓤 H A f.signature κs qs a vals) (WpFn 𝓤 H C Λ code.function (only (vals .0) ∷ only (vals .1 .0) ∷ only (vals .1 .1 .0) ∷ []) Post)

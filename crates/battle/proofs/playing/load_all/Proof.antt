@@ -8,7 +8,7 @@ use native.Mathlib.Omega.{arith}
 use Prim.Native.Nat.{ℕ, _-_, _≤_}
 use native.Mathlib.Nat.{sub-zero}
 use lib.ListN.{length}
-use Rattle.process.specs.Parts.{machineOf}
+use Rattle.lent.specs.Parts.{machineOf}
 use Rattle.battle.specs.Match.{loads}
 use Rattle.battle.proofs.Plays.{load-stops, load-goes-on, loads-end}
 
@@ -19,16 +19,27 @@ abbrev μ-loop : tie.MeasureT-loop
 μ-loop file count core₀ queue₀ header₀ i₀ core queue header i = count - i
 
 loop-holds : tie.Need-loop-holds Inv-loop μ-loop
-loop-holds c = (omega arith, ap (λ (k : ℕ). loads (c .before .before .before .args .file .now) 0 k (machineOf (c .before .before .before .args .core .now) (c .before .before .before .args .queue .now) (c .before .before .before .args .h))) (sub-zero (c .before .before .before .args .count)), refl, refl)
+loop-holds c =
+    let a = c .before .before .before .args in
+    (omega arith, ap (λ (k : ℕ). loads (a .file .now) 0 k (machineOf (a .core .now) (a .queue .now) (a .h))) (sub-zero (a .count)), refl, refl)
 
-read-line-requires : tie.Need-read-line-requires Inv-loop μ-loop
-read-line-requires c κs = search needs
+cast-line-in : tie.Need-cast-line-in Inv-loop μ-loop
+cast-line-in c = search needs
 
-name-requires : tie.Need-name-requires Inv-loop μ-loop
-name-requires c κs = search needs
+line-in-requires : tie.Need-line-in-requires Inv-loop μ-loop
+line-in-requires c κs = search needs
 
-body-requires : tie.Need-body-requires Inv-loop μ-loop
-body-requires c κs = search needs
+part-requires : tie.Need-part-requires Inv-loop μ-loop
+part-requires c κs = search needs
+
+cast-part : tie.Need-cast-part Inv-loop μ-loop
+cast-part c = search needs
+
+mul-part : tie.Need-mul-part Inv-loop μ-loop
+mul-part c = search needs
+
+part-requires-2 : tie.Need-part-requires-2 Inv-loop μ-loop
+part-requires-2 c κs = search needs
 
 load-requires : tie.Need-load-requires Inv-loop μ-loop
 load-requires c κs = search needs
@@ -43,16 +54,41 @@ same-length-2 : tie.Need-same-length-2 Inv-loop μ-loop
 same-length-2 c = search needs
 
 returns : tie.Need-returns Inv-loop μ-loop
-returns c = load-stops (c .before .before .before .before .before .before .before .before .before .before .before .before .before .before .before .before .before .before .args .file .now) (c .before .before .before .before .before .before .before .before .before .before .before .before .before .before .before .before .before .before .args .count) (c .before .before .before .before .before .before .before .before .before .before .before .before .before .before .loop .i) (machineOf (c .before .before .before .before .before .before .before .before .before .before .before .before .before .before .loop .core) (c .before .before .before .before .before .before .before .before .before .before .before .before .before .before .loop .queue) (c .before .before .before .before .before .before .before .before .before .before .before .before .before .before .loop .header)) (c .before .before .before .before .before .before .before .before .before .before .before .before .before .before .before .before .before .before .pre) (c .before .before .before .before .before .before .before .before .before .before .before .before .before .loop-test .taken) (c .before .before .before .before .before .before .before .before .before .name .ensures) (c .before .before .before .before .before .before .before .before .body .ensures) (c .before .before .before .before .before .before .before .before .before .before .before .before .read-line .ensures .2) (c .before .before .before .before .before .before .before .before .before .before .before .before .read-line .ensures .3) (c .before .before .before .before .before .before .before .load .result .answer) (c .before .before .before .before .before .before .before .load .result .writes) (machineOf (c .before .before .before .before .before .before .before .load .last .0) (c .before .before .before .before .before .before .before .load .last .1 .0) (c .before .before .before .before .before .before .before .load .result .header)) (c .before .before .before .before .before .before .before .load .ensures) (c .before .number .ensures) (c .if1 .taken) ∙ c .before .before .before .before .before .before .before .before .before .before .before .before .before .before .loop .inv .1
+returns c =
+    let a = c .before .before .before .before .before .before .before .before .before .before .before .before .before .before .before .before .before .before .before .args in
+    let l = c .before .before .before .before .before .before .before .before .before .before .before .before .before .before .before .loop in
+    let o = c .before .before .before .before .before .before .before .load in
+    let m = machineOf (l .core) (l .queue) (l .header) in
+    let n = machineOf (o .last .0) (o .last .1 .0) (o .result .header) in
+    let t = c .before .before .before .before .before .before .before .before .before .before .before .before .before .before .loop-test .taken in
+    let line-is = c .before .before .before .before .before .before .before .before .before .before .before .before .before .line-in .ensures in
+    let name-is = c .before .before .before .before .before .before .before .before .before .before .part .ensures in
+    let body-is = c .before .before .before .before .before .before .before .before .part2 .ensures in
+    load-stops (a .file .now) (a .count) (l .i) m t line-is name-is body-is (o .result .answer) n (o .ensures) (c .before .number .ensures) (c .if1 .taken)
+    ∙ l .inv .1
 
 add-i : tie.Need-add-i Inv-loop μ-loop
-add-i c = record { fits = omega (arith, c .before .before .before .before .before .before .before .before .before .before .before .before .before .loop-test .taken, c .before .before .before .before .before .before .before .before .before .before .before .before .before .before .before .before .before .before .fits .count .fits) }
+add-i c = record { fits = omega (arith, c .before .before .before .before .before .before .before .before .before .before .before .before .before .before .loop-test .taken, c .before .before .before .before .before .before .before .before .before .before .before .before .before .before .before .before .before .before .before .fits .count .fits) }
 
 loop-less : tie.Need-loop-less Inv-loop μ-loop
-loop-less c = omega (arith, c .before .before .before .before .before .before .before .before .before .before .before .before .before .loop-test .taken)
+loop-less c = omega (arith, c .before .before .before .before .before .before .before .before .before .before .before .before .before .before .loop-test .taken)
 
 loop-again : tie.Need-loop-again Inv-loop μ-loop
-loop-again c = (omega (arith, c .before .before .before .before .before .before .before .before .before .before .before .before .before .loop-test .taken), load-goes-on (c .before .before .before .before .before .before .before .before .before .before .before .before .before .before .before .before .before .before .args .file .now) (c .before .before .before .before .before .before .before .before .before .before .before .before .before .before .before .before .before .before .args .count) (c .before .before .before .before .before .before .before .before .before .before .before .before .before .before .loop .i) (machineOf (c .before .before .before .before .before .before .before .before .before .before .before .before .before .before .loop .core) (c .before .before .before .before .before .before .before .before .before .before .before .before .before .before .loop .queue) (c .before .before .before .before .before .before .before .before .before .before .before .before .before .before .loop .header)) (c .before .before .before .before .before .before .before .before .before .before .before .before .before .before .before .before .before .before .pre) (c .before .before .before .before .before .before .before .before .before .before .before .before .before .loop-test .taken) (c .before .before .before .before .before .before .before .before .before .name .ensures) (c .before .before .before .before .before .before .before .before .body .ensures) (c .before .before .before .before .before .before .before .before .before .before .before .before .read-line .ensures .2) (c .before .before .before .before .before .before .before .before .before .before .before .before .read-line .ensures .3) (c .before .before .before .before .before .before .before .load .result .answer) (c .before .before .before .before .before .before .before .load .result .writes) (machineOf (c .before .before .before .before .before .before .before .load .last .0) (c .before .before .before .before .before .before .before .load .last .1 .0) (c .before .before .before .before .before .before .before .load .result .header)) (c .before .before .before .before .before .before .before .load .ensures) (c .before .number .ensures) (c .if1 .left) ∙ c .before .before .before .before .before .before .before .before .before .before .before .before .before .before .loop .inv .1, c .before .before .before .before .before .before .core .given ∙ c .before .before .before .before .before .before .before .before .before .before .before .before .before .before .loop .inv .2, c .before .before .before .before .queue .given ∙ c .before .before .before .before .before .before .before .before .before .before .before .before .before .before .loop .inv .3)
+loop-again c =
+    let a = c .before .before .before .before .before .before .before .before .before .before .before .before .before .before .before .before .before .before .before .args in
+    let l = c .before .before .before .before .before .before .before .before .before .before .before .before .before .before .before .loop in
+    let o = c .before .before .before .before .before .before .before .load in
+    let m = machineOf (l .core) (l .queue) (l .header) in
+    let n = machineOf (o .last .0) (o .last .1 .0) (o .result .header) in
+    let t = c .before .before .before .before .before .before .before .before .before .before .before .before .before .before .loop-test .taken in
+    let line-is = c .before .before .before .before .before .before .before .before .before .before .before .before .before .line-in .ensures in
+    let name-is = c .before .before .before .before .before .before .before .before .before .before .part .ensures in
+    let body-is = c .before .before .before .before .before .before .before .before .part2 .ensures in (
+      omega (arith, t),
+      load-goes-on (a .file .now) (a .count) (l .i) m t line-is name-is body-is (o .result .answer) n (o .ensures) (c .before .number .ensures) (c .if1 .left) ∙ l .inv .1,
+      c .before .before .before .before .before .before .core .given ∙ l .inv .2,
+      c .before .before .before .before .queue .given ∙ l .inv .3,
+    )
 
 same-length-3 : tie.Need-same-length-3 Inv-loop μ-loop
 same-length-3 c = search needs
@@ -70,9 +106,12 @@ load-all-spec =
     Inv-loop
     μ-loop
     loop-holds
-    read-line-requires
-    name-requires
-    body-requires
+    cast-line-in
+    line-in-requires
+    part-requires
+    cast-part
+    mul-part
+    part-requires-2
     load-requires
     number-requires
     same-length

@@ -25,13 +25,29 @@ refuse-requires-2 : tie.Need-refuse-requires-2
 refuse-requires-2 c κs = search needs
 
 returns-2 : tie.Need-returns-2
-returns-2 c = refusal-comes (c .refuse2 .result .ran) (c .refuse2 .result .answer) (c .refuse2 .result .steps) (c .refuse2 .result .writes) (c .refuse2 .result .header) (c .refuse2 .ensures .0) (c .refuse2 .ensures .1) (malformed (c .before .before .before .before .before .before .before .before .args .file .now) (omega (arith, c .before .before .before .before .if1 .left)) (c .before .before .before .read .result .answer) (c .before .before .before .read .ensures .0) (c .before .before .number .ensures) (c .before .if2 .taken))
+returns-2 c =
+    let read = c .before .before .before .read in
+    let if1 = c .before .before .before .before .if1 in
+    let start = c .before .before .before .before .before .before .before .before in
+    refusal-comes (c .refuse2 .result .ran) (c .refuse2 .result .answer) (c .refuse2 .result .steps) (c .refuse2 .result .writes)
+    (c .refuse2 .result .header) (c .refuse2 .ensures .0) (c .refuse2 .ensures .1)
+    (malformed (start .args .file .now) (omega (arith, if1 .left)) (read .result .answer) (read .ensures .0) (c .before .before .number .ensures)
+    (c .before .if2 .taken))
 
 refuse-requires-3 : tie.Need-refuse-requires-3
 refuse-requires-3 c κs = search needs
 
 returns-3 : tie.Need-returns-3
-returns-3 c = refusal-comes (c .refuse3 .result .ran) (c .refuse3 .result .answer) (c .refuse3 .result .steps) (c .refuse3 .result .writes) (c .refuse3 .result .header) (c .refuse3 .ensures .0) (c .refuse3 .ensures .1) (too-big (c .before .before .before .before .before .before .before .before .before .before .args .file .now) (omega (arith, c .before .before .before .before .before .before .if1 .left)) (c .before .before .before .before .before .read .result .answer) (c .before .before .before .before .before .read .ensures .0) (c .before .before .before .before .number .ensures) (c .before .before .before .if2 .left) (c .before .before .before .before .before .read .ensures .2) (omega (arith, c .before .if3 .taken)))
+returns-3 c =
+    let if2 = c .before .before .before .if2 in
+    let number = c .before .before .before .before .number in
+    let read = c .before .before .before .before .before .read in
+    let if1 = c .before .before .before .before .before .before .if1 in
+    let start = c .before .before .before .before .before .before .before .before .before .before in
+    refusal-comes (c .refuse3 .result .ran) (c .refuse3 .result .answer) (c .refuse3 .result .steps) (c .refuse3 .result .writes)
+    (c .refuse3 .result .header) (c .refuse3 .ensures .0) (c .refuse3 .ensures .1)
+    (too-big (start .args .file .now) (omega (arith, if1 .left)) (read .result .answer) (read .ensures .0) (number .ensures) (if2 .left)
+    (read .ensures .2) (omega (arith, c .before .if3 .taken)))
 
 cast-cells : tie.Need-cast-cells
 cast-cells c = search needs
@@ -43,7 +59,16 @@ slice-aggregate-lent : tie.Need-slice-aggregate-lent
 slice-aggregate-lent c = sym (length-take-le (c .before .before .before .before .before .before .read .result .size) (c .before .before .before .before .before .before .before .before .before .before .before .args .core .now) (omega (arith, c .before .before .if3 .left, c .before .before .before .before .before .before .before .before .before .before .before .pre .0)))
 
 play-loaded-requires : tie.Need-play-loaded-requires
-play-loaded-requires c κs = (reads (c .before .before .before .before .before .before .before .before .before .before .before .before .args .file .now) (omega (arith, c .before .before .before .before .before .before .before .before .if1 .left)) (c .before .before .before .before .before .before .before .read .result .answer) (c .before .before .before .before .before .before .before .read .ensures .0) (c .before .before .before .before .before .before .number .ensures) (c .before .before .before .before .before .if2 .left), is-read (c .before .before .before .before .before .before .before .before .before .before .before .before .args .file .now) (omega (arith, c .before .before .before .before .before .before .before .before .if1 .left)) (c .before .before .before .before .before .before .before .read .result .answer) (c .before .before .before .before .before .before .before .read .ensures .0) (c .before .before .before .before .before .before .number .ensures) (c .before .before .before .before .before .if2 .left) (c .before .before .before .before .before .before .before .read .ensures .1))
+play-loaded-requires c κs =
+    let if2 = c .before .before .before .before .before .if2 in
+    let number = c .before .before .before .before .before .before .number in
+    let read = c .before .before .before .before .before .before .before .read in
+    let if1 = c .before .before .before .before .before .before .before .before .if1 in
+    let start = c .before .before .before .before .before .before .before .before .before .before .before .before in (
+      reads (start .args .file .now) (omega (arith, if1 .left)) (read .result .answer) (read .ensures .0) (number .ensures) (if2 .left),
+      is-read
+          (start .args .file .now) (omega (arith, if1 .left)) (read .result .answer) (read .ensures .0) (number .ensures) (if2 .left) (read .ensures .1),
+    )
 
 same-length : tie.Need-same-length
 same-length c = search needs
@@ -52,7 +77,19 @@ same-length-2 : tie.Need-same-length-2
 same-length-2 c = search needs
 
 returns-4 : tie.Need-returns-4
-returns-4 c = (c .before .before .before .before .play-loaded .ensures .0 ∙ fits (c .before .before .before .before .before .before .before .before .before .before .before .before .before .before .before .before .before .args .file .now) (omega (arith, c .before .before .before .before .before .before .before .before .before .before .before .before .before .if1 .left)) (c .before .before .before .before .before .before .before .before .before .before .before .before .read .result .answer) (c .before .before .before .before .before .before .before .before .before .before .before .before .read .ensures .0) (c .before .before .before .before .before .before .before .before .before .before .before .number .ensures) (c .before .before .before .before .before .before .before .before .before .before .if2 .left) (c .before .before .before .before .before .before .before .before .before .before .before .before .read .ensures .2) (omega (arith, c .before .before .before .before .before .before .before .before .if3 .left)) (take (c .before .before .before .before .before .before .before .before .before .before .before .before .read .result .size) (c .before .before .before .before .before .before .before .before .before .before .before .before .before .before .before .before .before .args .core .now)) (c .before .before .before .before .before .before .before .before .before .before .before .before .before .before .before .before .before .args .queue .now) (length-take-le (c .before .before .before .before .before .before .before .before .before .before .before .before .read .result .size) (c .before .before .before .before .before .before .before .before .before .before .before .before .before .before .before .before .before .args .core .now) (omega (arith, c .before .before .before .before .before .before .before .before .if3 .left, c .before .before .before .before .before .before .before .before .before .before .before .before .before .before .before .before .before .pre .0))) (c .before .before .before .before .before .before .before .before .before .before .before .before .before .before .before .before .before .pre .1), c .before .before .before .before .play-loaded .ensures .1)
+returns-4 c =
+    let play-loaded = c .before .before .before .before .play-loaded in
+    let if3 = c .before .before .before .before .before .before .before .before .if3 in
+    let if2 = c .before .before .before .before .before .before .before .before .before .before .if2 in
+    let number = c .before .before .before .before .before .before .before .before .before .before .before .number in
+    let read = c .before .before .before .before .before .before .before .before .before .before .before .before .read in
+    let if1 = c .before .before .before .before .before .before .before .before .before .before .before .before .before .if1 in
+    let start = c .before .before .before .before .before .before .before .before .before .before .before .before .before .before .before .before .before in (
+      play-loaded .ensures .0 ∙ fits (start .args .file .now) (omega (arith, if1 .left)) (read .result .answer) (read .ensures .0) (number .ensures)
+          (if2 .left) (read .ensures .2) (omega (arith, if3 .left)) (take (read .result .size) (start .args .core .now)) (start .args .queue .now)
+          (length-take-le (read .result .size) (start .args .core .now) (omega (arith, if3 .left, start .pre .0))) (start .pre .1),
+      play-loaded .ensures .1,
+    )
 
 pub play-file-spec : {M : Type 1} → statement M
 play-file-spec =

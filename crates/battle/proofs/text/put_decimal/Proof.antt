@@ -27,7 +27,11 @@ same-length : tie.Need-same-length
 same-length c = search needs
 
 returns : tie.Need-returns
-returns c = spelt (c .before .before .before .before .before .before .before .before .args .n) (c .before .before .before .before .before .decimal .result) (c .before .before .before .before .before .decimal .ensures .1 .0) (c .before .before .before .before .before .decimal .ensures .1 .1) (c .before .before .before .before .before .decimal .ensures .0 .1) (c .before .before .before .before .before .before .before .before .fits .n .fits) (c .before .before .put-bytes .ensures)
+returns c =
+    let decimal = c .before .before .before .before .before .decimal in
+    let start = c .before .before .before .before .before .before .before .before in
+    spelt (start .args .n) (decimal .result) (decimal .ensures .1 .0) (decimal .ensures .1 .1) (decimal .ensures .0 .1) (start .fits .n .fits)
+    (c .before .before .put-bytes .ensures)
 
 pub put-decimal-spec : {M : Type 1} → statement M
 put-decimal-spec =

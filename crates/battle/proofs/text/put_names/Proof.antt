@@ -10,10 +10,10 @@ use lib.ListN.{length}
 use Rattle.battle.proofs.Lines.{name-short, Left, begun, over, turn}
 
 abbrev Inv-loop : tie.InvT-loop
-Inv-loop out₀ at h held to₀ i₀ out to i = Left h out₀ out at to i × (h .held ≤ 16)
+Inv-loop out₀ at h held to₀ i₀ out to i = Left h out₀ out at to i × (h .names .held ≤ 16)
 
 abbrev μ-loop : tie.MeasureT-loop
-μ-loop out₀ at h held to₀ i₀ out to i = h .held - i
+μ-loop out₀ at h held to₀ i₀ out to i = h .names .held - i
 
 sized-requires : tie.Need-sized-requires Inv-loop μ-loop
 sized-requires c κs = search needs
@@ -49,13 +49,17 @@ loop-less : tie.Need-loop-less Inv-loop μ-loop
 loop-less c = search needs
 
 loop-again : tie.Need-loop-again Inv-loop μ-loop
-loop-again c = (
-  turn (c .before .before .before .before .before .before .before .before .before .before .before .before .before .before .before .args .t3) (c .before .before .before .before .before .before .before .before .before .before .before .before .before .before .before .args .out .now) (c .before .before .before .before .before .before .before .before .before .before .before .before .before .before .before .args .at) (c .before .before .before .before .before .before .before .before .before .before .loop .out) (c .before .before .before .before .before .before .before .before .before .before .loop .to) (c .before .before .before .before .before .before .before .before .before .before .loop .i) (c .before .before .before .before .before .before .before .before .before .before .loop .inv .0) _ _ _ (c .before .before .before .before .before .before .before .before .before .loop-test .taken)
-      (c .before .before .before .name-at .ensures)
-      (let short = name-short (c .before .before .before .before .before .before .before .before .before .before .before .before .before .before .before .args .t3) (c .before .before .before .before .before .before .before .before .before .before .loop .i) (c .before .before .before .before .before .before .before .before .before .before .before .sized .ensures) in let name = ap length (c .before .before .before .name-at .ensures) in omega arith)
-      (c .before .before .put-name .ensures) (search needs),
-  c .before .before .before .before .before .before .before .before .before .before .loop .inv .1,
-)
+loop-again c =
+    let name-at = c .before .before .before .name-at in
+    let loop-test = c .before .before .before .before .before .before .before .before .before .loop-test in
+    let loop = c .before .before .before .before .before .before .before .before .before .before .loop in
+    let sized = c .before .before .before .before .before .before .before .before .before .before .before .sized in
+    let start = c .before .before .before .before .before .before .before .before .before .before .before .before .before .before .before in (
+      turn (start .args .t3) (start .args .out .now) (start .args .at) (loop .out) (loop .to) (loop .i) (loop .inv .0) _ _ _ (loop-test .taken)
+          (name-at .ensures) (let short = name-short (start .args .t3) (loop .i) (sized .ensures) in let name = ap length (name-at .ensures) in omega arith)
+          (c .before .before .put-name .ensures) (search needs),
+      loop .inv .1,
+    )
 
 same-length : tie.Need-same-length Inv-loop μ-loop
 same-length c = c .before .loop .inv .0 .kept

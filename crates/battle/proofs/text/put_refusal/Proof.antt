@@ -22,7 +22,12 @@ same-length : tie.Need-same-length
 same-length c = search needs
 
 returns : tie.Need-returns
-returns c = refusal-short (told (c .before .before .before .before .before .before .before .before .before .before .before .args .answer)) (c .before .before .before .before .before .before .before .before .before .number .ensures) (c .before .before .before .before .if1 .taken) (c .before .before .before .before .before .before .before .put-decimal .ensures .0) (c .before .before .put-byte .ensures)
+returns c =
+    let if1 = c .before .before .before .before .if1 in
+    let put-decimal = c .before .before .before .before .before .before .before .put-decimal in
+    let number = c .before .before .before .before .before .before .before .before .before .number in
+    let start = c .before .before .before .before .before .before .before .before .before .before .before in
+    refusal-short (told (start .args .answer)) (number .ensures) (if1 .taken) (put-decimal .ensures .0) (c .before .before .put-byte .ensures)
 
 put-byte-requires-2 : tie.Need-put-byte-requires-2
 put-byte-requires-2 c κs = search needs
@@ -40,7 +45,16 @@ same-length-2 : tie.Need-same-length-2
 same-length-2 c = search needs
 
 returns-2 : tie.Need-returns-2
-returns-2 c = refusal-long (told (c .before .before .before .before .before .before .before .before .before .before .before .before .before .before .before .before .before .before .before .before .args .answer)) (c .before .before .before .before .before .before .before .before .before .before .before .before .before .before .before .before .before .before .number .ensures) (c .before .before .before .before .before .before .before .before .before .before .before .before .before .if1 .left) (c .before .before .before .before .before .before .before .value .ensures) (c .before .before .before .before .before .before .before .before .before .before .before .before .before .before .before .before .put-decimal .ensures .0) (c .before .before .before .before .before .before .before .before .before .before .before .put-byte2 .ensures) (c .before .before .before .before .before .before .put-decimal2 .ensures .0) (c .before .before .put-byte3 .ensures)
+returns-2 c =
+    let put-decimal2 = c .before .before .before .before .before .before .put-decimal2 in
+    let value = c .before .before .before .before .before .before .before .value in
+    let put-byte2 = c .before .before .before .before .before .before .before .before .before .before .before .put-byte2 in
+    let if1 = c .before .before .before .before .before .before .before .before .before .before .before .before .before .if1 in
+    let put-decimal = c .before .before .before .before .before .before .before .before .before .before .before .before .before .before .before .before .put-decimal in
+    let number = c .before .before .before .before .before .before .before .before .before .before .before .before .before .before .before .before .before .before .number in
+    let start = c .before .before .before .before .before .before .before .before .before .before .before .before .before .before .before .before .before .before .before .before in
+    refusal-long (told (start .args .answer)) (number .ensures) (if1 .left) (value .ensures) (put-decimal .ensures .0) (put-byte2 .ensures)
+    (put-decimal2 .ensures .0) (c .before .before .put-byte3 .ensures)
 
 pub put-refusal-spec : {M : Type 1} → statement M
 put-refusal-spec =

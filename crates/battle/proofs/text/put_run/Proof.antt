@@ -38,13 +38,19 @@ same-length c = search needs
 
 returns : tie.Need-returns
 returns c =
-    run-text (c .before .before .before .before .before .before .before .before .before .before .before .before .before .before .before .before .before .before .before .before .before .before .before .before .before .before .before .before .before .before .args .steps) (c .before .before .before .before .before .before .before .before .before .before .before .before .before .before .before .before .before .before .before .before .before .before .before .before .before .before .before .before .before .before .args .writes) (c .before .before .before .before .before .before .before .before .before .before .before .before .before .before .before .before .before .before .before .before .before .before .before .before .before .before .before .before .before .before .args .h) (c .before .before .before .before .before .before .before .before .before .before .before .before .before .before .before .before .before .before .before .before .before .before .before .before .before .before .before .number .ensures)
-    (then (c .before .before .before .before .before .before .before .before .before .before .before .before .before .before .before .before .before .before .before .before .before .before .before .before .before .before .put-decimal .ensures .0)
-    (then (c .before .before .before .before .before .before .before .before .before .before .before .before .before .before .before .before .before .before .before .before .before .before .put-byte .ensures)
-    (then (c .before .before .before .before .before .before .before .before .before .before .before .before .before .before .before .before .before .before .put-decimal2 .ensures .0)
-    (then (c .before .before .before .before .before .before .before .before .before .before .before .before .before .before .put-byte2 .ensures)
-    (then (c .before .before .before .before .before .before .before .before .before .before .put-decimal3 .ensures .0)
-    (then (c .before .before .before .before .before .before .put-byte3 .ensures) (c .before .before .put-names .ensures)))))))
+    let put-byte3 = c .before .before .before .before .before .before .put-byte3 in
+    let put-decimal3 = c .before .before .before .before .before .before .before .before .before .before .put-decimal3 in
+    let put-byte2 = c .before .before .before .before .before .before .before .before .before .before .before .before .before .before .put-byte2 in
+    let put-decimal2 = c .before .before .before .before .before .before .before .before .before .before .before .before .before .before .before .before .before .before .put-decimal2 in
+    let put-byte = c .before .before .before .before .before .before .before .before .before .before .before .before .before .before .before .before .before .before .before .before .before .before .put-byte in
+    let put-decimal = c .before .before .before .before .before .before .before .before .before .before .before .before .before .before .before .before .before .before .before .before .before .before .before .before .before .before .put-decimal in
+    let number = c .before .before .before .before .before .before .before .before .before .before .before .before .before .before .before .before .before .before .before .before .before .before .before .before .before .before .before .number in
+    let start = c .before .before .before .before .before .before .before .before .before .before .before .before .before .before .before .before .before .before .before .before .before .before .before .before .before .before .before .before .before .before in
+    run-text (start .args .steps) (start .args .writes) (start .args .h) (number .ensures)
+    (then (put-decimal .ensures .0)
+    (then (put-byte .ensures)
+    (then (put-decimal2 .ensures .0)
+    (then (put-byte2 .ensures) (then (put-decimal3 .ensures .0) (then (put-byte3 .ensures) (c .before .before .put-names .ensures)))))))
 
 pub put-run-spec : {M : Type 1} → statement M
 put-run-spec =

@@ -4,7 +4,7 @@ use borrow.Author.Needs.{needs}
 use Rattle.execute.proofs.address.a_operand.Statement.{statement}
 use Rattle.execute.proofs.address.a_operand.Tie as tie
 use mathlib.Core.Path.{_∙_, ap}
-use Rattle.load_file.specs.Cells.{unpacked}
+use Rattle.cell.specs.Cells.{unpacked}
 use Rattle.execute.proofs.Pointing.{as-named}
 use Rattle.execute.proofs.Evaluation.{ready-a}
 use native.Mathlib.Omega.{arith}
@@ -22,7 +22,12 @@ same-length : tie.Need-same-length
 same-length c = search needs
 
 returns : tie.Need-returns
-returns c = as-named _ (c .before .before .before .before .before .before .args .core .now) _ (c .before .before .before .before .a-mode .ensures ∙ ap (λ w. unpacked w .«a_mode») (c .before .before .before .before .before .before .pre .is)) (c .before .before .before .number .ensures ∙ ap (λ w. unpacked w .a .0) (c .before .before .before .before .before .before .pre .is)) (c .direct .ensures)
+returns c =
+    let number = c .before .before .before .number in
+    let a-mode = c .before .before .before .before .a-mode in
+    let start = c .before .before .before .before .before .before in
+    as-named _ (start .args .core .now) _ (a-mode .ensures ∙ ap (λ w. unpacked w .«a_mode») (start .pre .is))
+    (number .ensures ∙ ap (λ w. unpacked w .a .0) (start .pre .is)) (c .direct .ensures)
 
 indirect-requires : tie.Need-indirect-requires
 indirect-requires c κs = (ready-a (c .before .before .before .before .before .pre) (c .before .before .number .ensures), c .before .if1 .left, rw (c .before .before .before .a-mode .ensures) (omega arith))
@@ -31,7 +36,12 @@ same-length-2 : tie.Need-same-length-2
 same-length-2 c = search needs
 
 returns-2 : tie.Need-returns-2
-returns-2 c = as-named _ (c .before .before .before .before .before .before .before .before .args .core .now) _ (c .before .before .before .before .before .before .a-mode .ensures ∙ ap (λ w. unpacked w .«a_mode») (c .before .before .before .before .before .before .before .before .pre .is)) (c .before .before .before .before .before .number .ensures ∙ ap (λ w. unpacked w .a .0) (c .before .before .before .before .before .before .before .before .pre .is)) (c .before .before .indirect .ensures)
+returns-2 c =
+    let number = c .before .before .before .before .before .number in
+    let a-mode = c .before .before .before .before .before .before .a-mode in
+    let start = c .before .before .before .before .before .before .before .before in
+    as-named _ (start .args .core .now) _ (a-mode .ensures ∙ ap (λ w. unpacked w .«a_mode») (start .pre .is))
+    (number .ensures ∙ ap (λ w. unpacked w .a .0) (start .pre .is)) (c .before .before .indirect .ensures)
 
 pub a-operand-spec : {M : Type 1} → statement M
 a-operand-spec =

@@ -4,6 +4,7 @@ use borrow.Author.Needs.{needs}
 use Rattle.execute.proofs.opcode.moves.Statement.{statement}
 use Rattle.execute.proofs.opcode.moves.Tie as tie
 use native.Mathlib.Omega.{arith}
+use Rattle.execute.proofs.Cells.{reduced}
 use Rattle.execute.proofs.Acting.{below, move-whole, move-fields}
 
 add-requires : tie.Need-add-requires
@@ -34,13 +35,23 @@ same-length : tie.Need-same-length
 same-length c = search needs
 
 returns : tie.Need-returns
-returns c = move-whole (c .before .before .before .before .before .before .args .size) (c .before .before .before .before .before .before .args .core .now) (c .before .before .before .before .before .before .args .modifier) (c .before .before .before .before .before .before .args .pc .0) 0 (c .before .before .before .before .before .before .args .target .0) (c .before .before .before .before .before .before .args .ra) (c .before .before .before .before .before .before .args .rb) (c .before .before .before .before .before .before .args .w) (c .before .before .before .before .before .before .pre) (c .before .if1 .taken) _ _ (c .before .before .before .before .add .ensures .is) (c .copy .ensures)
+returns c =
+    let c4 = c .before .before .before .before in
+    let c6 = c4 .before .before in
+    let a = c6 .args in
+    move-whole (a .size) (a .core .now) (a .modifier) (a .pc .0) 0 (a .target .0) (a .ra) (a .rb) (a .w) (c6 .pre) (c .before .if1 .taken) _ _
+    (reduced _ _ (c6 .pre .place) (c4 .add .ensures) .is) (c .copy .ensures)
 
 meet-requires : tie.Need-meet-requires
 meet-requires c κs = search needs
 
 store-requires : tie.Need-store-requires
-store-requires c κs = let h = below (c .before .before .before .before .before .before .before .before .args .size) (c .before .before .before .before .before .before .before .before .args .core .now) (c .before .before .before .before .before .before .before .before .args .modifier) (c .before .before .before .before .before .before .before .before .args .pc .0) 0 (c .before .before .before .before .before .before .before .before .args .target .0) (c .before .before .before .before .before .before .before .before .args .ra) (c .before .before .before .before .before .before .before .before .args .rb) (c .before .before .before .before .before .before .before .before .args .w) (c .before .before .before .before .before .before .before .before .pre) _ (c .before .before .meet .ensures) .a1 in let v = c .before .before .before .before .before .before .before .before .pre .valid in omega arith
+store-requires c κs =
+    let c2 = c .before .before in
+    let c8 = c2 .before .before .before .before .before .before in
+    let a = c8 .args in
+    let h = below (a .size) (a .core .now) (a .modifier) (a .pc .0) 0 (a .target .0) (a .ra) (a .rb) (a .w) (c8 .pre) _ (c2 .meet .ensures) .a1 in let v =
+    c8 .pre .valid in omega arith
 
 mul-core-2 : tie.Need-mul-core-2
 mul-core-2 c = search needs
@@ -55,7 +66,14 @@ same-length-2 : tie.Need-same-length-2
 same-length-2 c = search needs
 
 returns-2 : tie.Need-returns-2
-returns-2 c = move-fields (c .before .before .before .before .before .before .before .before .before .args .size) (c .before .before .before .before .before .before .before .before .before .args .core .now) (c .before .before .before .before .before .before .before .before .before .args .modifier) (c .before .before .before .before .before .before .before .before .before .args .pc .0) 0 (c .before .before .before .before .before .before .before .before .before .args .target .0) (c .before .before .before .before .before .before .before .before .before .args .ra) (c .before .before .before .before .before .before .before .before .before .args .rb) (c .before .before .before .before .before .before .before .before .before .args .w) (c .before .before .before .before .before .before .before .before .before .pre) _ (c .before .before .before .meet .ensures) (c .before .before .before .before .if1 .left) _ _ (c .before .before .before .before .before .before .before .add .ensures .is) (c .store .ensures)
+returns-2 c =
+    let c3 = c .before .before .before in
+    let c4 = c3 .before in
+    let c7 = c4 .before .before .before in
+    let c9 = c7 .before .before in
+    let a = c9 .args in
+    move-fields (a .size) (a .core .now) (a .modifier) (a .pc .0) 0 (a .target .0) (a .ra) (a .rb) (a .w) (c9 .pre) _ (c3 .meet .ensures) (c4 .if1 .left)
+    _ _ (reduced _ _ (c9 .pre .place) (c7 .add .ensures) .is) (c .store .ensures)
 
 pub moves-spec : {M : Type 1} → statement M
 moves-spec =

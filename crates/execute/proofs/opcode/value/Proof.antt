@@ -6,23 +6,24 @@ use Rattle.execute.proofs.opcode.value.Tie as tie
 use native.Mathlib.Nat.{lt-trans}
 use native.Mathlib.Omega.{arith}
 use lib.Dec.{lit<}
-use Rattle.load_file.proofs.Offsets.{product-fits}
+use Rattle.offset.proofs.Offsets.{product-fits}
+use Rattle.execute.proofs.Cells.{reduced}
 use Rattle.execute.proofs.Arithmetic.{value-sum, value-difference, value-product}
 
-sum-requires : tie.Need-sum-requires
-sum-requires c κs = search needs
+plus-requires : tie.Need-plus-requires
+plus-requires c κs = search needs
 
 returns : tie.Need-returns
-returns c = value-sum _ _ _ _ (c .before .if1 .taken) (c .sum .ensures)
+returns c = value-sum _ _ _ _ (c .before .if1 .taken) (reduced _ _ (c .before .before .pre .0) (c .plus .ensures))
 
-sub-sum : tie.Need-sub-sum
-sub-sum c = search needs
+sub-t7 : tie.Need-sub-t7
+sub-t7 c = search needs
 
-sum-requires-2 : tie.Need-sum-requires-2
-sum-requires-2 c κs = search needs
+plus-requires-2 : tie.Need-plus-requires-2
+plus-requires-2 c κs = search needs
 
 returns-2 : tie.Need-returns-2
-returns-2 c = value-difference _ _ _ _ (c .before .before .if2 .taken) (c .sum2 .ensures)
+returns-2 c = value-difference _ _ _ _ (c .before .before .if2 .taken) (reduced _ _ (c .before .before .before .before .pre .1) (c .plus2 .ensures))
 
 mul-product : tie.Need-mul-product
 mul-product c =
@@ -39,10 +40,10 @@ pub value-spec : {M : Type 1} → statement M
 value-spec =
     tie.close
     (tie.spec
-    sum-requires
+    plus-requires
     returns
-    sub-sum
-    sum-requires-2
+    sub-t7
+    plus-requires-2
     returns-2
     mul-product
     rem-product

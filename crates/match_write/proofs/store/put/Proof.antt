@@ -8,7 +8,7 @@ use Prim.Native.Nat.{_+_, _-_, _≤_, zero-le}
 use lib.ListN.{length}
 use lib.Seq.{sets}
 use Rattle.laws.proofs.Lists.{done}
-use Rattle.program.specs.Bytes.{spelled}
+use Rattle.encoding.specs.Bytes.{spelled}
 use Rattle.match_write.proofs.Stores.{put-turn}
 use Rattle.match_write.proofs.store.put.Statement.{statement}
 use Rattle.match_write.proofs.store.put.Tie as tie

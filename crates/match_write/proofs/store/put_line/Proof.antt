@@ -51,10 +51,21 @@ add-put-4 : tie.Need-add-put-4
 add-put-4 c = search needs
 
 put-requires-5 : tie.Need-put-requires-5
-put-requires-5 c κs = omega (arith, simp length-set at (c .before .before .before .before .before .before .before .before .before .before .before .before .before .before .before .before .before .before .out .given), c .before .before .before .before .before .before .before .before .before .before .before .before .before .before .out2 .given, c .before .before .before .before .before .before .before .before .before .before .out3 .given, c .before .before .before .before .before .before .out4 .given, c .before .before .out5 .given)
+put-requires-5 c κs =
+    let out4 = c .before .before .before .before .before .before .out4 in
+    let out3 = c .before .before .before .before .before .before .before .before .before .before .out3 in
+    let out2 = c .before .before .before .before .before .before .before .before .before .before .before .before .before .before .out2 in
+    let out = c .before .before .before .before .before .before .before .before .before .before .before .before .before .before .before .before .before .before .out in
+    omega (arith, simp length-set at (out .given), out2 .given, out3 .given, out4 .given, c .before .before .out5 .given)
 
 same-length : tie.Need-same-length
-same-length c = c .before .out6 .given ∙ c .before .before .before .before .before .out5 .given ∙ c .before .before .before .before .before .before .before .before .before .out4 .given ∙ c .before .before .before .before .before .before .before .before .before .before .before .before .before .out3 .given ∙ c .before .before .before .before .before .before .before .before .before .before .before .before .before .before .before .before .before .out2 .given ∙ simp length-set at (c .before .before .before .before .before .before .before .before .before .before .before .before .before .before .before .before .before .before .before .before .before .out .given)
+same-length c =
+    let out5 = c .before .before .before .before .before .out5 in
+    let out4 = c .before .before .before .before .before .before .before .before .before .out4 in
+    let out3 = c .before .before .before .before .before .before .before .before .before .before .before .before .before .out3 in
+    let out2 = c .before .before .before .before .before .before .before .before .before .before .before .before .before .before .before .before .before .out2 in
+    let out = c .before .before .before .before .before .before .before .before .before .before .before .before .before .before .before .before .before .before .before .before .before .out in
+    c .before .out6 .given ∙ out5 .given ∙ out4 .given ∙ out3 .given ∙ out2 .given ∙ simp length-set at (out .given)
 
 returns : tie.Need-returns
 returns c =

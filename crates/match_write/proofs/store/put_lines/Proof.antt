@@ -8,8 +8,9 @@ use Prim.Native.Nat.{_+_, _-_, _*_, _≤_, zero-le}
 use lib.ListN.{length}
 use lib.Seq.{sets}
 use Rattle.laws.proofs.Lists.{done}
-use Rattle.match_file.specs.Format.{lines, bodies}
+use Rattle.match_format.specs.Format.{lines, bodies}
 use Rattle.match_file.specs.Reading.{warriorsAt}
+use Rattle.match_file.proofs.Values.{name-told, count-told, origin-told, place-told}
 use Rattle.match_write.proofs.Lines.{its-short, lines-turn, start-turn}
 use Rattle.match_write.proofs.store.put_lines.Statement.{statement}
 use Rattle.match_write.proofs.store.put_lines.Tie as tie
@@ -26,11 +27,14 @@ abbrev μ-loop : tie.MeasureT-loop
 loop-holds : tie.Need-loop-holds Inv-loop μ-loop
 loop-holds c = (zero-le, refl, omega arith, rw sub-zero, rw sub-zero)
 
-read-line-requires : tie.Need-read-line-requires Inv-loop μ-loop
-read-line-requires c κs = search needs
+cast-line-in : tie.Need-cast-line-in Inv-loop μ-loop
+cast-line-in c = search needs
 
-name-requires : tie.Need-name-requires Inv-loop μ-loop
-name-requires c κs = search needs
+line-in-requires : tie.Need-line-in-requires Inv-loop μ-loop
+line-in-requires c κs = search needs
+
+part-requires : tie.Need-part-requires Inv-loop μ-loop
+part-requires c κs = search needs
 
 cast-count : tie.Need-cast-count Inv-loop μ-loop
 cast-count c = search needs
@@ -46,7 +50,8 @@ put-line-requires c κs =
     let s = c .before .before .before .before .before .before .before .before in
     let l = c .before .before .before .before .before .loop in
     let e = s .pre .1 .numbers (l .i) (c .before .before .before .before .loop-test .taken) in
-    (its-short (s .args .file .now) (l .i) e (c .before .before .name .ensures), omega arith)
+    let told = c .before .before .before .line-in .ensures in
+    (its-short (s .args .file .now) (l .i) e (name-told (s .args .file .now) (l .i) told (c .before .before .part .ensures)), omega arith)
 
 mul-to : tie.Need-mul-to Inv-loop μ-loop
 mul-to c = search needs
@@ -65,14 +70,18 @@ loop-again c =
     let s = c .before .before .before .before .before .before .before .before .before .before .before in
     let l = c .before .before .before .before .before .before .before .before .loop in
     let t = c .before .before .before .before .before .before .before .loop-test .taken in
-    let r = c .before .before .before .before .before .before .read-line .ensures in
+    let f = s .args .file .now in
+    let told = c .before .before .before .before .before .before .line-in .ensures in
+    let name = name-told f (l .i) told (c .before .before .before .before .before .part .ensures) in
+    let count = count-told f (l .i) told in
     let e = s .pre .1 .numbers (l .i) t in (
       omega arith,
       c .before .out .given ∙ l .inv .1,
       omega arith,
-      l .inv .3 ∙ start-turn (s .args .file .now) (l .i) e (l .to) (s .args .n) _ t (r .1),
+      l .inv .3 ∙ start-turn f (l .i) e (l .to) (s .args .n) _ t count,
       l .inv .4
-          ∙ lines-turn (s .args .file .now) (l .i) e (l .out) _ _ (l .to) (s .args .n) _ _ _ t (c .before .before .before .before .before .name .ensures) (r .1) (r .2) (r .3) (c .before .before .put-line .ensures),
+          ∙ lines-turn f (l .i) e (l .out) _ _ (l .to) (s .args .n) _ _ _ t name count (origin-told f (l .i) told) (place-told f (l .i) told)
+          (c .before .before .put-line .ensures),
     )
 
 same-length : tie.Need-same-length Inv-loop μ-loop
@@ -91,8 +100,9 @@ put-lines-spec =
     Inv-loop
     μ-loop
     loop-holds
-    read-line-requires
-    name-requires
+    cast-line-in
+    line-in-requires
+    part-requires
     cast-count
     mul-put-line
     add-put-line

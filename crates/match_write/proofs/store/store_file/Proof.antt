@@ -5,9 +5,9 @@ use native.Mathlib.Omega.{arith}
 use mathlib.Core.Path.{sym, _∙_}
 use lib.ListN.{length-set}
 use Rattle.laws.proofs.Lists.{to-end}
-use Rattle.match_file.specs.Format.{warrior}
+use Rattle.match_format.specs.Format.{warrior}
 use Rattle.match_file.specs.Reading.{warriorsAt}
-use Rattle.match_file.proofs.Whole.{lines-start}
+use Rattle.match_format.proofs.Whole.{lines-start}
 use Rattle.match_file.proofs.Warriors.{length-warriors, bodies-are, short-names}
 use Rattle.match_write.proofs.Lines.{rest-length, file-stored}
 use Rattle.match_write.proofs.store.store_file.Statement.{statement}
@@ -75,7 +75,12 @@ add-result : tie.Need-add-result
 add-result c = search needs
 
 same-length : tie.Need-same-length
-same-length c = c .before .out5 .given ∙ c .before .before .before .before .before .out4 .given ∙ c .before .before .before .before .before .before .before .before .before .before .out3 .given ∙ simp length-set at (c .before .before .before .before .before .before .before .before .before .before .before .before .before .before .before .out2 .given) ∙ simp length-set at (c .before .before .before .before .before .before .before .before .before .before .before .before .before .before .before .before .before .before .before .out .given)
+same-length c =
+    let out4 = c .before .before .before .before .before .out4 in
+    let out3 = c .before .before .before .before .before .before .before .before .before .before .out3 in
+    let out2 = c .before .before .before .before .before .before .before .before .before .before .before .before .before .before .before .out2 in
+    let out = c .before .before .before .before .before .before .before .before .before .before .before .before .before .before .before .before .before .before .before .out in
+    c .before .out5 .given ∙ out4 .given ∙ out3 .given ∙ simp length-set at (out2 .given) ∙ simp length-set at (out .given)
 
 returns : tie.Need-returns
 returns c =

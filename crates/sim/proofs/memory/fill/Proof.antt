@@ -7,7 +7,7 @@ use mathlib.Core.Path.{_≡_, refl}
 use Prim.Native.Nat.{_-_}
 use native.Mathlib.Omega.{arith}
 use lib.ListN.{length, length-set}
-use Rattle.sim.proofs.Memories.{FilledFrom, filled-start, filled-further, filled-over}
+use Rattle.sim.proofs.Filling.{FilledFrom, filled-start, filled-further, filled-over}
 
 abbrev Inv-loop : tie.InvT-loop
 Inv-loop memory₀ word i₀ memory i = (length memory ≡ length memory₀) × FilledFrom word memory₀ memory i

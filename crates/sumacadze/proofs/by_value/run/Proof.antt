@@ -4,8 +4,8 @@ use borrow.Author.Needs.{needs}
 use mathlib.Core.Path.{ap, _∙_}
 use Rattle.machine.specs.declared.Ceiling.{Ceiling}
 use Rattle.machine.specs.Run as running
-use Rattle.process.specs.Parts.{machineOf}
-use Rattle.cycle.specs.Given.{givenBy}
+use Rattle.lent.specs.Parts.{machineOf}
+use Rattle.lent.specs.Given.{givenBy}
 use Rattle.sumacadze.proofs.by_value.run.Statement.{statement}
 use Rattle.sumacadze.proofs.by_value.run.Tie as tie
 

@@ -1,4 +1,0 @@
-pub mod Turns
-pub mod Answers
-pub mod Loop
-pub mod Calls

@@ -1,4 +1,0 @@
-pub mod Offsets
-pub mod Words
-pub mod Soundness
-pub mod Default

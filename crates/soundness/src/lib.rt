@@ -1,0 +1,156 @@
+// The tests of a lent record: its header, and the front entry (01, 'What a call gives back').
+ghost use mathlib.Core.Path.{_≡_};
+ghost use mathlib.Core.List.{[]};
+ghost use Prim.Native.Nat.{_+_, _-_, _≤_, _<_};
+ghost use lib.Dec.{eqb};
+ghost use lib.ListN.{length, take};
+ghost use Rattle.laws.specs.Lists.{every, tally, table, total, same, distinct};
+ghost use Rattle.metadata.specs.Metadata.{validName};
+ghost use Rattle.machine.specs.Names.{nameAt, names};
+ghost use Rattle.machine.specs.Soundness.{soundHeader, soundEntry};
+ghost use Rattle.lent.specs.Parts.{namesOf, headerOf, noRing, machineOf, validLength};
+use entry::unpack;
+use machine::Ring;
+use machine::Rules;
+use machine::limits::LARGEST_CORE;
+use machine::limits::MOST_ENTRIES;
+use metadata::valid_name;
+use names::equal;
+use names::name_at;
+use offset::within;
+
+// Whether each name held has 1 to 32 bytes.
+fn lengths_valid(lengths: &[u8; 16], held: usize) -> bool
+    requires { ⌜ held ≤ 16 ⌝ }
+    ensures { λ r. ⌜ (r ≡ every validLength (take held (now (lengths .entry)))) × (length (now (lengths .entry)) ≡ 16) ⌝ }
+{
+    let sizes = &lengths[..];
+    let mut i: usize = 0;
+    while i < held {
+        let size = sizes[i];
+        if size < 1 {
+            return false;
+        }
+        if size > 32 {
+            return false;
+        }
+        i += 1;
+    }
+    true
+}
+
+// Whether each name held is valid.
+fn names_valid<'a>(names: &'a [u8; 512], lengths: &'a [u8; 16], held: usize) -> bool
+    requires { ⌜ held ≤ 16 ⌝ }
+    ensures { λ r. ⌜ r ≡ every validName (table (nameAt (namesOf 0 (now (names .entry)) (now (lengths .entry)))) 0 held) ⌝ }
+{
+    let mut i: usize = 0;
+    while i < held {
+        if !valid_name(name_at(names, lengths, i)) {
+            return false;
+        }
+        i += 1;
+    }
+    true
+}
+
+// Whether a name is unlike those held after it.
+fn is_unlike<'a>(names: &'a [u8; 512], lengths: &'a [u8; 16], i: usize, held: usize) -> bool
+    requires { ⌜ (i < held) × (held ≤ 16) ⌝ }
+    ensures { λ r. ⌜ r ≡ eqb (tally (same (nameAt (namesOf 0 (now (names .entry)) (now (lengths .entry))) i))
+        (table (nameAt (namesOf 0 (now (names .entry)) (now (lengths .entry)))) (i + 1) (held - (i + 1)))) 0 ⌝ }
+{
+    let mut j = i + 1;
+    while j < held {
+        if equal(name_at(names, lengths, i), name_at(names, lengths, j)) {
+            return false;
+        }
+        j += 1;
+    }
+    true
+}
+
+// Whether no two names held are alike.
+fn names_distinct<'a>(names: &'a [u8; 512], lengths: &'a [u8; 16], held: usize) -> bool
+    requires { ⌜ held ≤ 16 ⌝ }
+    ensures { λ r. ⌜ r ≡ distinct (table (nameAt (namesOf 0 (now (names .entry)) (now (lengths .entry)))) 0 held) ⌝ }
+{
+    let mut i: usize = 0;
+    while i < held {
+        if !is_unlike(names, lengths, i, held) {
+            return false;
+        }
+        i += 1;
+    }
+    true
+}
+
+// The sum of the counts of the names held.
+fn total_of(counts: &[u32; 16], held: usize) -> u64
+    requires { ⌜ held ≤ 16 ⌝ }
+    ensures { λ r. ⌜ r ≡ total (take held (now (counts .entry))) ⌝ }
+{
+    let numbers = &counts[..];
+    let mut sum: u64 = 0;
+    let mut i: usize = 0;
+    while i < held {
+        sum = sum + wide(numbers[i]);
+        i += 1;
+    }
+    sum
+}
+
+// A number of 32 bits as one of 64.
+fn wide(n: u32) -> u64
+    ensures { λ r. ⌜ (r ≡ n) × (r ≤ 4294967295) ⌝ }
+{
+    n as u64
+}
+
+// Whether a header is sound beside the core's and the queue's memory.
+pub fn sound_header<'a>(
+    core: &[u64],
+    queue: &[u64],
+    rules: Rules,
+    ring: Ring,
+    held: u32,
+    names: &'a [u8; 512],
+    lengths: &'a [u8; 16],
+    counts: &'a [u32; 16],
+) -> bool
+    ensures { λ r. ⌜ r ≡ soundHeader (machineOf (now (core .entry)) (now (queue .entry)) (headerOf rules ring (namesOf held (now (names .entry)) (now (lengths .entry))) (now (counts .entry)) [])) ⌝ }
+{
+    let slots = queue.len();
+    let numbers = (1 <= rules.size)
+        & (rules.size <= LARGEST_CORE)
+        & (rules.size as usize == core.len())
+        & (1 <= slots)
+        & (slots <= MOST_ENTRIES)
+        & (ring.length as usize <= slots)
+        & ((ring.head as usize) < slots)
+        & (held <= 16);
+    if !numbers {
+        return false;
+    }
+    let n = held as usize;
+    if !lengths_valid(lengths, n) {
+        return false;
+    }
+    if !names_valid(names, lengths, n) {
+        return false;
+    }
+    if !names_distinct(names, lengths, n) {
+        return false;
+    }
+    total_of(counts, n) == ring.length as u64
+}
+
+// Whether a front entry is sound.
+pub fn sound_front(w: u64, rules: Rules, held: u32, counts: &[u32; 16]) -> bool
+    ensures { λ r. ⌜ r ≡ soundEntry (headerOf rules noRing (namesOf held [] []) (now (counts .entry)) []) w ⌝ }
+{
+    let e = unpack(w);
+    let name = e.name as usize;
+    let count = counts[name];
+    (name < held as usize) & (1 <= count) & within(e.place, rules.size) & (w >> 52 == 0)
+}
