@@ -111,7 +111,7 @@ static double stepped(uint32_t size, uint32_t limit, uint32_t n, uint16_t second
 
 // each step a call of the exported function on a header that C keeps
 static double outer(uint32_t size, uint32_t limit, uint32_t n, uint16_t second, uint64_t ceiling, uint64_t *report) {
-    sumacadze_fresh_t f = sumacadze_fresh(size, core[0], size, queue[0], limit);
+    sumacadze_fresh_t f = sumacadze_fresh((sumacadze_rules_t){.size = size}, core[0], size, queue[0], limit);
     sumacadze_header_t *h = &f.header;
     sumacadze_load(core[0], size, queue[0], limit, h, (const uint8_t *)"first", 5, body, 12 * n, 0, 0);
     if (second)
@@ -124,7 +124,7 @@ static double outer(uint32_t size, uint32_t limit, uint32_t n, uint16_t second, 
         writes += r.writes, steps += r.steps;
     }
     t = now() - t;
-    report[0] = r.number, report[1] = steps, report[2] = writes, report[3] = h->head, report[4] = h->length;
+    report[0] = r.number, report[1] = steps, report[2] = writes, report[3] = h->ring.head, report[4] = h->ring.length;
     return t;
 }
 

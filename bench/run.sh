@@ -15,7 +15,7 @@ cp -R "$here/../crates" "$here/../crates.txt" .
 mkdir -p crates/bench/src crates/bench/proofs/bench_steps
 cp "$here/exports.rt.txt" crates/bench/src/lib.rt
 cp "$here/bench_steps.antt.txt" crates/bench/proofs/bench_steps/Proof.antt
-echo "bench: laws answer load_file program machine process sim execute cycle" >> crates.txt
+echo "bench: answer cycle machine sim soundness warrior" >> crates.txt
 rt staticlib bench
 rt staticlib sumacadze
 gcc -O3 -Wall -I"$here/../include" -o "$work/driver" "$here/driver.c" "$here/plain.c" target/staticlib/libbench.a target/staticlib/libsumacadze.a

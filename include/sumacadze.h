@@ -42,11 +42,29 @@ enum {
 
 enum { SUMACADZE_NAMES = 16, SUMACADZE_NAME_BYTES = 32, SUMACADZE_NO_ORIGIN = 65535 };
 
-/* The record that the machine keeps beside its two memories. A name has 32 bytes of names, from 32 times its index on. */
+/* What a fresh machine is given and no call changes: the core's size. */
 typedef struct {
-    uint32_t size, head, length, steps, held;
-    uint8_t names[SUMACADZE_NAMES * SUMACADZE_NAME_BYTES];
+    uint32_t size;
+} sumacadze_rules_t;
+
+/* Where the ring of queued processes begins, and how many entries it has. */
+typedef struct {
+    uint32_t head, length;
+} sumacadze_ring_t;
+
+/* The names held. A name has 32 of the bytes, from 32 times its index on. */
+typedef struct {
+    uint32_t held;
+    uint8_t bytes[SUMACADZE_NAMES * SUMACADZE_NAME_BYTES];
     uint8_t lengths[SUMACADZE_NAMES];
+} sumacadze_roster_t;
+
+/* The record that the machine keeps beside its two memories; each name has a count and a next thread number. */
+typedef struct {
+    sumacadze_rules_t rules;
+    sumacadze_ring_t ring;
+    uint32_t steps;
+    sumacadze_roster_t names;
     uint32_t counts[SUMACADZE_NAMES];
     uint32_t threads[SUMACADZE_NAMES];
 } sumacadze_header_t;
@@ -80,8 +98,9 @@ typedef struct {
     uint32_t place;
 } sumacadze_line_t;
 
-/* A fresh machine of that size: fresh cells in the core memory, zeros in the queue memory, and its header. */
-sumacadze_fresh_t sumacadze_fresh(uint32_t size, uint64_t *core, size_t core_length, uint64_t *queue, size_t queue_length);
+/* A fresh machine of these rules: fresh cells in the core memory, zeros in the queue memory, and its header. */
+sumacadze_fresh_t sumacadze_fresh(sumacadze_rules_t rules, uint64_t *core, size_t core_length, uint64_t *queue,
+                                  size_t queue_length);
 
 /* Loads a warrior: its body at a place, a process at the origin (SUMACADZE_NO_ORIGIN is 0). An empty name is Warrior0. */
 sumacadze_report_t sumacadze_load(uint64_t *core, size_t core_length, uint64_t *queue, size_t queue_length,
@@ -114,9 +133,11 @@ sumacadze_line_t sumacadze_read_line(const uint8_t *file, size_t file_length, si
 #endif
 
 /* The layout that the library has. */
-SUMACADZE_ASSERT(sizeof(sumacadze_header_t) == 676 && offsetof(sumacadze_header_t, names) == 20);
-SUMACADZE_ASSERT(offsetof(sumacadze_header_t, lengths) == 532 && offsetof(sumacadze_header_t, counts) == 548);
-SUMACADZE_ASSERT(offsetof(sumacadze_header_t, threads) == 612 && sizeof(sumacadze_fresh_t) == 680);
+SUMACADZE_ASSERT(sizeof(sumacadze_header_t) == 676 && offsetof(sumacadze_header_t, ring) == 4);
+SUMACADZE_ASSERT(offsetof(sumacadze_header_t, steps) == 12 && offsetof(sumacadze_header_t, names) == 16);
+SUMACADZE_ASSERT(offsetof(sumacadze_roster_t, bytes) == 4 && offsetof(sumacadze_roster_t, lengths) == 516);
+SUMACADZE_ASSERT(offsetof(sumacadze_header_t, counts) == 548 && offsetof(sumacadze_header_t, threads) == 612);
+SUMACADZE_ASSERT(sizeof(sumacadze_rules_t) == 4 && sizeof(sumacadze_fresh_t) == 680);
 SUMACADZE_ASSERT(sizeof(sumacadze_report_t) == 32 && sizeof(sumacadze_reading_t) == 16);
 SUMACADZE_ASSERT(sizeof(sumacadze_contents_t) == 32 && sizeof(sumacadze_line_t) == 56);
 SUMACADZE_ASSERT(sizeof(bool) == 1 && sizeof(size_t) == 8);

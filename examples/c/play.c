@@ -20,8 +20,8 @@ static int refused(uint8_t number, size_t position) {
 // Prints what came of the run, and the names.
 static int played(sumacadze_report_t run, const sumacadze_header_t *header) {
     printf("%u %llu %llu\n", run.number, (unsigned long long)run.steps, (unsigned long long)run.writes);
-    for (uint32_t i = 0; i < header->held; i++) {
-        fwrite(header->names + SUMACADZE_NAME_BYTES * i, 1, header->lengths[i], stdout);
+    for (uint32_t i = 0; i < header->names.held; i++) {
+        fwrite(header->names.bytes + SUMACADZE_NAME_BYTES * i, 1, header->names.lengths[i], stdout);
         printf(" %u\n", header->counts[i]);
     }
     return 0;
@@ -42,7 +42,7 @@ int main(int words, char **word) {
     uint32_t size = contents.size;
     if (size > LARGEST_SIZE)
         return refused(SUMACADZE_INVALID_CORE_SIZE, 0);
-    sumacadze_fresh_t machine = sumacadze_fresh(size, core, size, queue, QUEUE);
+    sumacadze_fresh_t machine = sumacadze_fresh((sumacadze_rules_t){.size = size}, core, size, queue, QUEUE);
     if (machine.number)
         return refused(machine.number, 0);
     for (size_t i = 0; i < contents.warriors; i++) {

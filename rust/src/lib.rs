@@ -13,5 +13,5 @@ mod match_file;
 mod raw;
 
 pub use answer::Answer;
-pub use machine::{Cell, Header, Machine, NotLent, Report, NO_ORIGIN};
+pub use machine::{Cell, Header, Machine, NotLent, Report, Ring, Roster, Rules, NO_ORIGIN};
 pub use match_file::{Match, Warrior};

@@ -5,17 +5,38 @@ use std::fmt;
 /// The origin of a warrior that has none, meaning 0.
 pub const NO_ORIGIN: u16 = 65535;
 
+/// What a fresh machine is given and no call changes: the core's size.
+#[repr(C)]
+#[derive(Clone, Copy, Debug, PartialEq, Eq)]
+pub struct Rules {
+    pub size: u32,
+}
+
+/// Where the ring of queued processes begins, and how many entries it has.
+#[repr(C)]
+#[derive(Clone, Copy, Debug, PartialEq, Eq)]
+pub struct Ring {
+    pub head: u32,
+    pub length: u32,
+}
+
+/// The names held: 16 slots of 32 bytes and a length each.
+#[repr(C)]
+#[derive(Clone, Copy, Debug, PartialEq, Eq)]
+pub struct Roster {
+    pub held: u32,
+    pub bytes: [u8; 512],
+    pub lengths: [u8; 16],
+}
+
 /// The record that the machine keeps beside its two memories. It may hold anything: a call on an unsound one is refused.
 #[repr(C)]
 #[derive(Clone, Copy, Debug, PartialEq, Eq)]
 pub struct Header {
-    pub size: u32,
-    pub head: u32,
-    pub length: u32,
+    pub rules: Rules,
+    pub ring: Ring,
     pub steps: u32,
-    pub held: u32,
-    pub names: [u8; 512],
-    pub lengths: [u8; 16],
+    pub names: Roster,
     pub counts: [u32; 16],
     pub threads: [u32; 16],
 }
@@ -95,14 +116,14 @@ fn span(pointer: *mut u64, length: usize) -> Result<(usize, usize), NotLent> {
 impl<'a> Machine<'a> {
     /// A fresh machine: fresh cells, zeros in the queue memory.
     pub fn fresh(
-        size: u32,
+        rules: Rules,
         core: &'a mut [u64],
         queue: &'a mut [u64],
     ) -> Result<Machine<'a>, Answer> {
         // SAFETY: both are exclusive slices, so neither is null, and they do not overlap.
         let f = unsafe {
             raw::sumacadze_fresh(
-                size,
+                rules,
                 core.as_mut_ptr(),
                 core.len(),
                 queue.as_mut_ptr(),
@@ -232,12 +253,13 @@ impl<'a> Machine<'a> {
 
     /// Each name that is held and its number of processes, in order of first load. An unsound header's are cut to what there is room for.
     pub fn names(&self) -> impl Iterator<Item = (&[u8], u32)> {
-        let held = (self.header.held as usize).min(16);
+        let held = (self.header.names.held as usize).min(16);
         let slots = self
             .header
             .names
+            .bytes
             .chunks_exact(32)
-            .zip(self.header.lengths)
+            .zip(self.header.names.lengths)
             .zip(self.header.counts);
         slots
             .take(held)

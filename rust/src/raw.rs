@@ -1,5 +1,5 @@
 //! What the static library exports, as include/sumacadze.h declares it.
-use crate::Header;
+use crate::{Header, Roster, Rules};
 use std::mem::{offset_of, size_of};
 
 #[repr(C)]
@@ -48,15 +48,17 @@ pub struct Line {
 }
 
 // The layout that the library has.
-const _: () = assert!(size_of::<Header>() == 676 && offset_of!(Header, names) == 20);
-const _: () = assert!(offset_of!(Header, lengths) == 532 && offset_of!(Header, counts) == 548);
-const _: () = assert!(offset_of!(Header, threads) == 612 && size_of::<Fresh>() == 680);
+const _: () = assert!(size_of::<Header>() == 676 && offset_of!(Header, ring) == 4);
+const _: () = assert!(offset_of!(Header, steps) == 12 && offset_of!(Header, names) == 16);
+const _: () = assert!(offset_of!(Roster, bytes) == 4 && offset_of!(Roster, lengths) == 516);
+const _: () = assert!(offset_of!(Header, counts) == 548 && offset_of!(Header, threads) == 612);
+const _: () = assert!(size_of::<Rules>() == 4 && size_of::<Fresh>() == 680);
 const _: () = assert!(size_of::<Report>() == 32 && size_of::<Reading>() == 16);
 const _: () = assert!(size_of::<Contents>() == 32 && size_of::<Line>() == 56);
 
 extern "C" {
     pub fn sumacadze_fresh(
-        size: u32,
+        rules: Rules,
         core: *mut u64,
         core_length: usize,
         queue: *mut u64,

@@ -1,5 +1,5 @@
 //! The safe calls: numbers, refusals that change nothing, parts of a file, and memory that comes as pointers.
-use sumacadze::{Answer, Header, Machine, Match, NotLent, NO_ORIGIN};
+use sumacadze::{Answer, Header, Machine, Match, NotLent, Ring, Roster, Rules, NO_ORIGIN};
 
 /// MOV.I $0, $1.
 const IMP: [u8; 12] = [1, 6, 1, 1, 0, 0, 0, 0, 1, 0, 0, 0];
@@ -14,19 +14,19 @@ fn memories() -> (Vec<u64>, Vec<u64>) {
 fn fresh_refuses_in_order_and_changes_nothing() {
     let (mut core, mut queue) = memories();
     assert_eq!(
-        Machine::fresh(0, &mut core, &mut queue).err(),
+        Machine::fresh(Rules { size: 0 }, &mut core, &mut queue).err(),
         Some(Answer::InvalidCoreSize)
     );
     assert_eq!(
-        Machine::fresh(46342, &mut core, &mut queue).err(),
+        Machine::fresh(Rules { size: 46342 }, &mut core, &mut queue).err(),
         Some(Answer::InvalidCoreSize)
     );
     assert_eq!(
-        Machine::fresh(9, &mut core, &mut queue).err(),
+        Machine::fresh(Rules { size: 9 }, &mut core, &mut queue).err(),
         Some(Answer::InvalidMemory)
     );
     assert_eq!(
-        Machine::fresh(8, &mut core, &mut []).err(),
+        Machine::fresh(Rules { size: 8 }, &mut core, &mut []).err(),
         Some(Answer::InvalidMemory)
     );
     assert_eq!((core, queue), memories());
@@ -35,7 +35,7 @@ fn fresh_refuses_in_order_and_changes_nothing() {
 #[test]
 fn an_imp_runs_and_a_dat_ends() {
     let (mut core, mut queue) = memories();
-    let mut m = Machine::fresh(8, &mut core, &mut queue).unwrap();
+    let mut m = Machine::fresh(Rules { size: 8 }, &mut core, &mut queue).unwrap();
     assert_eq!(m.load(b"Imp", &IMP, NO_ORIGIN, 6).answer, Answer::Done);
     assert_eq!(m.load(b"", &DAT, 0, 3).answer, Answer::Done);
     let first = m.step();
@@ -60,7 +60,7 @@ fn an_imp_runs_and_a_dat_ends() {
 #[test]
 fn loads_are_refused_by_their_numbers() {
     let (mut core, mut queue) = memories();
-    let mut m = Machine::fresh(8, &mut core, &mut queue).unwrap();
+    let mut m = Machine::fresh(Rules { size: 8 }, &mut core, &mut queue).unwrap();
     let before = (*m.header(), m.core().to_vec(), m.queue().to_vec());
     assert_eq!(
         m.load(b"x", &[0; 12 * 9], 0, 0).answer,
@@ -90,13 +90,17 @@ fn loads_are_refused_by_their_numbers() {
 #[test]
 fn any_header_is_taken_and_an_unsound_one_is_refused() {
     let header = Header {
-        size: 8,
-        head: u32::MAX,
-        length: u32::MAX,
+        rules: Rules { size: 8 },
+        ring: Ring {
+            head: u32::MAX,
+            length: u32::MAX,
+        },
         steps: u32::MAX,
-        held: u32::MAX,
-        names: [255; 512],
-        lengths: [255; 16],
+        names: Roster {
+            held: u32::MAX,
+            bytes: [255; 512],
+            lengths: [255; 16],
+        },
         counts: [u32::MAX; 16],
         threads: [u32::MAX; 16],
     };
@@ -115,7 +119,9 @@ fn any_header_is_taken_and_an_unsound_one_is_refused() {
 fn memory_that_comes_as_pointers_is_tested() {
     let mut words = vec![0u64; 12];
     let (mut core, mut queue) = memories();
-    let header = *Machine::fresh(8, &mut core, &mut queue).unwrap().header();
+    let header = *Machine::fresh(Rules { size: 8 }, &mut core, &mut queue)
+        .unwrap()
+        .header();
     let at = words.as_mut_ptr();
     let take = |core: *mut u64, cells: usize, queue: *mut u64, entries: usize| {
         // SAFETY: both are refused, or lie in `words`, which nothing else uses meanwhile.

@@ -25,37 +25,38 @@ import sys
 
 # ---- what depends on the repository -------------------------------------------------------------------------------
 CRATE = "compared"
-DEPENDS = ["laws", "answer", "load_file", "program", "machine"]
+DEPENDS = ["laws", "answer", "offset", "types", "cell", "encoding", "metadata", "program", "machine"]
 
 # imports of the module Play
 USES = """\
-use Rattle.load_file.specs.Cells.{soundWord}
+use Rattle.cell.specs.Cells.{soundWord}
 use Rattle.program.specs.Program.{lawful, lowestFault, cells}
 use Rattle.machine.specs.declared.Ceiling.{Ceiling}
 use Rattle.machine.specs.declared.Ceiling.the-variants.{Unsaid, Steps}
-use Rattle.machine.specs.State.{Machine, Outcome}
+use Rattle.machine.specs.State.{ofSize, Machine, Outcome}
 use Rattle.machine.specs.Names.{names, register, numbered}
 use Rattle.machine.specs.Queue.{entries, pop, push, started}
 use Rattle.machine.specs.Soundness.{soundHeader, soundEntry}
-use Rattle.machine.specs.Load.{fresh, loaded, load}
+use Rattle.machine.specs.Fresh.{fresh}
+use Rattle.machine.specs.Load.{loaded, load}
 use Rattle.machine.specs.Pointers.{operand}
 use Rattle.machine.specs.Execution.{effectOf}
-use Rattle.machine.specs.Step.{effect, coreAfter, stepWrites, counted, executed, step}
+use Rattle.machine.specs.Step.{effect, coreAfter, stepWritten, counted, executed, step}
 use Rattle.machine.specs.Run.{run}
 """
 
 # the shut names that a battle computes through
-OPENED = "soundWord lawful lowestFault cells register numbered entries pop push started soundHeader soundEntry fresh loaded load operand effectOf effect coreAfter stepWrites counted executed step run"
+OPENED = "soundWord lawful lowestFault cells register numbered entries pop push started soundHeader soundEntry fresh loaded load operand effectOf effect coreAfter stepWritten counted executed step run"
 
 # the calls, on a machine m: `size` and `limit` are numbers, `name` and `body` bytes, `origin` a number, `ceiling` an Option ℕ
-FRESH = "fresh size (replicate size 7) (replicate limit 9) .machine"
+FRESH = "fresh (ofSize size) (replicate size 7) (replicate limit 9) .machine"
 LOAD = "load m name body origin 0"
 STEP = "step m"
 RUN = "run (ceilings ceiling) m"
 
 # what is told of an outcome o, its machine m and header h; then the core's cells and the names follow
-TOLD = "(o .number ∷ o .value ∷ o .steps ∷ h .steps ∷ []) ∷ entries m ∷ take (h .held) (h .counts) ∷ take (h .held) (h .threads)"
-NAMES = "names h"
+TOLD = "(o .number ∷ o .value ∷ o .steps ∷ h .steps ∷ []) ∷ entries m ∷ take (h .names .held) (h .counts) ∷ take (h .names .held) (h .threads)"
+NAMES = "names (h .names)"
 
 # the same for the Rust's machine as crate `reference` defines it
 RUST_DEPENDS = DEPENDS + ["account", "reference"]

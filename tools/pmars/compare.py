@@ -8,7 +8,7 @@ OPCODES = "DAT MOV ADD SUB MUL DIV MOD JMP JMZ JMN DJN CMP SEQ SNE SLT SPL NOP".
 MODIFIERS = "A B AB BA F X I".split()
 MODES = "#$*@{<}>"
 UNFOLDING = ("unfolding soundWord lawful lowestFault cells register numbered entries pop push started soundHeader soundEntry fresh loaded load "
-             "operand effectOf effect coreAfter stepWrites counted executed step Draft.step")
+             "operand effectOf effect coreAfter stepWritten counted executed step Draft.step")
 KINDS = "no departure", "departures 1 to 5", "departure 6", "B mode #"
 LINE = re.compile(r"(\d{5})   (?:([A-Z]{3})\.([A-Z]{1,2})\s+(\S)\s*(-?\d+),\s*(\S)\s*(-?\d+))?")
 
@@ -67,7 +67,7 @@ def write_crate(folder, rows):
     """A copy of the repository with a crate `pmars`: its theorem is that the definitions give what pMARS gave, row by row."""
     root = pathlib.Path(__file__).resolve().parents[2]
     shutil.copytree(root / "crates", folder / "crates", ignore=shutil.ignore_patterns("must-fail"))
-    dependencies = "laws answer load_file program machine draft"
+    dependencies = "laws answer offset types cell encoding metadata program machine draft"
     lines = (root / "crates.txt").read_text().splitlines()
     (folder / "crates.txt").write_text("\n".join(l for l in lines if l.split(":")[0] in dependencies.split()) + f"\npmars: {dependencies}\n")
     for name in set(os.listdir(folder / "crates")) - set(dependencies.split()):

@@ -3,7 +3,7 @@
 use std::env;
 use std::fs::File;
 use std::io::{self, Read, Write};
-use sumacadze::{Answer, Machine, Match};
+use sumacadze::{Answer, Machine, Match, Rules};
 
 const LARGEST_FILE: usize = 32768;
 const LARGEST_SIZE: u32 = 8000;
@@ -20,7 +20,7 @@ fn play(file: &[u8]) -> Result<Vec<u8>, Answer> {
     }
     let mut core = vec![0; game.size as usize];
     let mut queue = vec![0; QUEUE];
-    let mut machine = Machine::fresh(game.size, &mut core, &mut queue)?;
+    let mut machine = Machine::fresh(Rules { size: game.size }, &mut core, &mut queue)?;
     for i in 0..game.warriors {
         let w = game.warrior(i)?;
         machine
