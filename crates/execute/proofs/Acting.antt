@@ -2,14 +2,13 @@
 -- Assumes nothing.
 use mathlib.Core.Path.{_≡_, refl, sym, ap, _∙_}
 use mathlib.Core.Bool.{Bool, true, false, cond, not, _&&_, _||_}
-use mathlib.Core.Logic.{⊎-elim}
 use mathlib.Core.List.{List}
 use mathlib.Core.Option.{Option, none, some}
 use Prim.Native.Nat.{ℕ, _+_, _/_, _%_, _≤_, _<_}
-use native.Mathlib.Nat.{add-zero, mod-add-mod, eq-or-lt-of-le}
+use native.Mathlib.Nat.{add-zero, mod-add-mod}
 use native.Mathlib.Omega.{arith}
 use lib.Dec.{eqb, ltb}
-use lib.ListN.{getD, set, List·getD-eq-default}
+use lib.ListN.{getD, set}
 use borrow.Author.Tests.{ne-eqb}
 use Rattle.laws.specs.Lists.{every}
 use Rattle.laws.proofs.Cases.{span}
@@ -19,7 +18,7 @@ use Rattle.offset.specs.Offset.{ahead}
 use Rattle.cell.specs.Cells.{packed, unpacked, withNumber}
 use Rattle.cell.proofs.Words.{word-range, unpack-pack}
 use Rattle.machine.specs.Execution as machine
-use Rattle.machine.specs.Execution.{Scene, Effect, ends, goes, divisor, mets, some?, computes, stored, put, isNone, effects, effectOf}
+use Rattle.machine.specs.Execution.{Scene, Effect, ends, goes, divisor, mets, some?, computes, stored, put, isNone, effectOf}
 use Rattle.machine.specs.Pointers.{less}
 use Rattle.machine.specs.Instruction.{storeTo}
 use Rattle.execute.specs.declared.Executed.{Executed}
