@@ -3,14 +3,13 @@
 use Prim.Native.Nat.{ℕ}
 use mathlib.Core.Path.{_≡_}
 use mathlib.Core.List.{List, [], _∷_}
-use lib.IntN.{ℤ}
 use Rattle.machine.specs.declared.Rules.{Rules}
 use Rattle.machine.specs.State.{Machine}
 use Rattle.machine.specs.Fresh.{fresh}
-use Rattle.machine.specs.Run.{read}
 use Rattle.machine.proofs.SoundMachine.{SoundMachine, fresh-sound, load-keeps, step-keeps, run-keeps-sound}
 use Rattle.machine.proofs.NotNine.{load-not-nine, step-not-nine, run-not-nine, read-done}
 use Rattle.account.specs.Calls.{Call, Load, Step, Run, outcome, left}
+use Rattle.account.specs.Endings.{reached, NeverNine, ReadingDone}
 
 pub call-sound : (c : Call) (m : Machine) → SoundMachine m → SoundMachine (outcome c m .machine)
 call-sound (Load name body origin place) m s = load-keeps m name body origin place s
@@ -26,13 +25,13 @@ call-not-nine (Load name body origin place) m s = load-not-nine m s name body or
 call-not-nine Step m s = step-not-nine m s
 call-not-nine (Run c) m s = run-not-nine c m s
 
-module _ (rules : Rules) (core queue : List ℕ) (ok : fresh rules core queue .number ≡ 0) (calls : List Call) where
-  pub always-sound : SoundMachine (left calls (fresh rules core queue .machine))
-  always-sound = calls-sound calls (fresh rules core queue .machine) (fresh-sound rules core queue ok)
+pub always-sound : (rules : Rules) (core queue : List ℕ) → fresh rules core queue .number ≡ 0 → (calls : List Call)
+    → SoundMachine (reached rules core queue calls)
+always-sound rules core queue ok calls = calls-sound calls (fresh rules core queue .machine) (fresh-sound rules core queue ok)
 
-  pub never-nine : (c : Call) → outcome c (left calls (fresh rules core queue .machine)) .number ≡ 9 → ⊥
-  never-nine c = call-not-nine c (left calls (fresh rules core queue .machine)) always-sound
+pub never-nine : NeverNine
+never-nine rules core queue ok calls c = call-not-nine c (reached rules core queue calls) (always-sound rules core queue ok calls)
 
-  -- and every cell reading is answered 0
-  pub reading-done : (z : ℤ) → read (left calls (fresh rules core queue .machine)) z .number ≡ 0
-  reading-done z = read-done (left calls (fresh rules core queue .machine)) always-sound z
+-- and every cell reading is answered 0
+pub reading-done : ReadingDone
+reading-done rules core queue ok calls z = read-done (reached rules core queue calls) (always-sound rules core queue ok calls) z

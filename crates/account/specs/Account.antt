@@ -1,5 +1,5 @@
 -- Demand 3 of the mission, sentence by sentence.
--- Assumes nothing.
+-- Believed. Assumes nothing.
 use Prim.Native.Nat.{ℕ, _+_, _*_, _≤_}
 use mathlib.Core.Path.{_≡_}
 use mathlib.Core.Bool.{Bool, true, false, cond, not, _&&_}
@@ -78,7 +78,7 @@ pub record Account (m : Machine) (w : ℕ) (log : List Event) : Type 0 where
   -- no other has entries (01)
   pub others : (n : List ℕ) → tally (loadOf n) log ≡ 0 → entriesOf m n ≡ 0
 
--- DEMAND 3. Fresh was lent a core and a queue memory and answered 0; 01's machine keeps a record of its own, of the same lengths, whatever
+-- DEMAND 3 over the definitions; of the program it stands in crates/demands/specs/Demands.antt. Fresh was lent a core and a queue memory and answered 0; 01's machine keeps a record of its own, of the same lengths, whatever
 -- was in it. After every list of calls, refused ones included, the account holds of the program's record, of the writes that the calls
 -- reported, and of what 01's machine tells
 abbrev pub EveryAccount : Type 0

@@ -1,5 +1,5 @@
 -- Lists of calls: what the program does with them, and the log that 01's machine keeps (the mission, demand 3; 01, 'One step', last paragraph).
--- Assumes nothing.
+-- Believed. Assumes nothing.
 use Prim.Native.Nat.{ℕ, zero, suc, _+_, _-_}
 use mathlib.Core.Bool.{cond}
 use mathlib.Core.List.{List, [], _∷_}

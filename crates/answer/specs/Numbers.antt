@@ -1,5 +1,5 @@
 -- 01's number, and the value given with it, for each case of the answer (01, 'What a call gives back').
--- Assumes nothing.
+-- Believed. Assumes nothing.
 use Prim.Native.Nat.{ℕ}
 use Rattle.answer.specs.declared.Answer.{Answer}
 use Rattle.answer.specs.declared.Answer.the-variants.{Done, InvalidCoreSize, InvalidMemory, WarriorTooLong, InvalidCode, InvalidNameOrPlace, NoRoom, NoRemainingProcesses, NumbersExhausted, UnsoundRecord, PrivateMemory, ExecuteDat, DivideByZero, Malformed}

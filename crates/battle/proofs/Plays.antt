@@ -30,7 +30,7 @@ use Rattle.match_file.proofs.Values.{number-read, name-told, body-told, origin-
 use Rattle.encoding.specs.Bytes.{part}
 use Rattle.lent.specs.Given.{Given, given, givenBy}
 use Rattle.battle.specs.Match.{Loads, loadOf, loads, Result, refused, played, ran, afterLoads, afterFresh, afterReading, result}
-use Rattle.battle.specs.Given.{loadsOf, resultOf}
+use Rattle.battle.specs.inner.Given.{loadsOf, resultOf}
 
 -- what `number(answer) != 0` tells
 is-zero : {r n : ℕ} → r ≡ n → r ≡ 0 → eqb n 0 ≡ true

@@ -1,4 +1,3 @@
+pub mod inner
 pub mod Match
 pub mod Text
-pub mod Given
-pub mod Games

@@ -1,5 +1,5 @@
 -- What comes of a match file that is played (01, 'Match file', `play`).
--- Assumes nothing.
+-- Believed. Assumes nothing.
 use Prim.Native.Nat.{ℕ, zero, suc, _+_}
 use mathlib.Core.Bool.{cond}
 use mathlib.Core.List.{List}

@@ -1,24 +1,16 @@
 // Plays a match file (01, 'Match file', `play`), and prints what came of it.
 ghost use mathlib.Core.Path.{_≡_};
 ghost use Prim.Native.Nat.{_≤_};
-ghost use lib.ListN.{length, replicate};
+ghost use lib.ListN.{length};
 ghost use lib.Seq.{sets};
 ghost use Rattle.battle.specs.Text.{printed};
 use machine::Rules;
 use playing::play_file;
+use printing::put_refusal;
+use printing::put_run;
 use sim::blank;
-use text::put_refusal;
-use text::put_run;
 
 mod playing;
-mod text;
-
-// Memory for a file, and one byte more, which tells a file that is too long.
-pub fn file_memory() -> [u8; 32769]
-    ensures { λ r. ⌜ r ≡ replicate 32769 0 ⌝ }
-{
-    [0; 32769]
-}
 
 // Memory for 8,000 cells.
 fn core_memory() -> [u64; 8000]
@@ -49,17 +41,16 @@ pub fn play(file: &[u8], out: &mut [u8; 16384]) -> usize
     let mut queue = queue_memory();
     let p = play_file(file, &mut core, &mut queue, blank(Rules { size: 0 }));
     let answer = p.answer;
-    let text = &mut out[..];
     if p.ran {
         let h = p.header;
-        return put_run(text, answer, p.steps, p.writes, h);
+        return put_run(out, answer, p.steps, p.writes, h);
     }
-    put_refusal(text, answer)
+    put_refusal(out, answer)
 }
 
-// Plays a match file, and writes to standard output what is to be printed.
-pub fn print(file: &[u8]) {
+// Plays a match file, and writes to standard output what is to be printed; whether all of it was taken.
+pub fn print(file: &[u8]) -> bool {
     let mut text = text_memory();
     let length = play(file, &mut text);
-    io::write_all(1, &text[..length]);
+    io::write_all(1, &text[..length])
 }

@@ -9,7 +9,7 @@ ghost use Rattle.match_file.specs.Reading.{warriorsIn};
 ghost use Rattle.machine.specs.Fresh as begins;
 ghost use Rattle.lent.specs.Parts.{machineOf};
 ghost use Rattle.battle.specs.Match as spec;
-ghost use Rattle.battle.specs.Given.{loadsOf, resultOf};
+ghost use Rattle.battle.specs.inner.Given.{loadsOf, resultOf};
 use answer::Answer;
 use answer::number;
 use cycle::run;

@@ -1,5 +1,5 @@
 -- The 64-bit word of a core cell, and the record of its fields (01, 'Cells').
--- Assumes nothing.
+-- Believed. Assumes nothing.
 use Prim.Native.Nat.{ℕ, _+_, _*_, _/_, _%_, _^_}
 use mathlib.Core.Bool.{Bool, _&&_}
 use mathlib.Core.List.{List}

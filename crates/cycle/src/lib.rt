@@ -28,7 +28,7 @@ pub fn run(core: &mut [u64], queue: &mut [u64], mut h: Header, ceiling: Ceiling)
     let mut counts = h.counts;
     let mut threads = h.threads;
     let limit = ceiling_of(ceiling);
-    let s = run_parts(
+    let ran = run_parts(
         core,
         queue,
         &mut counts,
@@ -41,16 +41,16 @@ pub fn run(core: &mut [u64], queue: &mut [u64], mut h: Header, ceiling: Ceiling)
         h.steps,
         limit,
     );
-    let ring = s.ring;
+    let ring = ran.ring;
     h.ring = ring;
-    h.steps = s.taken;
+    h.steps = ran.taken;
     h.counts = counts;
     h.threads = threads;
-    let answer = s.answer;
+    let answer = ran.answer;
     Outcome {
         answer,
-        writes: s.writes,
-        steps: s.steps,
+        writes: ran.writes,
+        steps: ran.steps,
         header: h,
     }
 }

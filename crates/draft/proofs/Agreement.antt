@@ -1,4 +1,4 @@
--- The theorem: a step to which no departure applies makes the draft's change of the core and queues the draft's next places.
+-- The theorem of specs/Agreement.antt: a step to which no departure applies makes the draft's change of the core and queues the draft's next places.
 -- Assumes nothing.
 use Prim.Native.Nat.{ℕ, _≤_, _<_}
 use mathlib.Core.Path.{_≡_, refl, sym, ap, ap₂, subst, _∙_}
@@ -34,6 +34,7 @@ use Rattle.draft.specs.Evaluation.{modes, immediate, evaluate}
 use Rattle.draft.specs.Draft.{State, Done, modifiers, I, execute, opcodes, NOP, obey}
 use Rattle.draft.specs.Draft
 use Rattle.draft.specs.Comparison.{cells, unlimited, drafted, places, room}
+use Rattle.draft.specs.Agreement.{Agreement}
 use Rattle.draft.specs.Departures.{scene, comparesWhole, locationB, readsAgain, keepsModes, hitsTarget, divides, testsBoth, comparesTwins, departs}
 use Rattle.draft.proofs.Cores.{reads}
 use Rattle.draft.proofs.Operands.{Same, same-operand, operand-long, read-lt, write-lt, register-range, live-register, keeps-b}
@@ -213,11 +214,8 @@ module _ (m : Machine) (f : Facts m) (none : None m) where
       (sym (ap (λ (es : List ℕ). drop 1 (map (λ w. unpackedEntry w .place .0) es)) (entries-pop m (f .some))))
       next-is
 
--- THE THEOREM. Of every machine whose step answers 0, 11 or 12 and to which no departure applies: every cell of the core afterwards is the draft's;
--- and the places queued afterwards are those before without the front one, and after them the draft's next places, in order,
--- as many as the process limit has room for.
-pub agreement : (m : Machine) → executes (step m .number) ≡ true → departs m ≡ false
-    → (cells (step m .machine) ≡ drafted m .core) × (places (step m .machine) ≡ drop 1 (places m) ++ take (room m) (drafted m .next))
+-- THE THEOREM
+pub agreement : Agreement
 agreement m t d =
     let x = step-executed m t in
     let f = facts m (x .0) in

@@ -1,5 +1,5 @@
 -- What of a machine's step is compared with the draft's: the core's cells, and the places queued.
--- Assumes nothing. The draft's limits are both M (01 has none).
+-- Believed. Assumes nothing. The draft's limits are both M (01 has none).
 use Prim.Native.Nat.{ℕ, _-_}
 use mathlib.Core.List.{List, map}
 use lib.ListN.{length}

@@ -1,5 +1,5 @@
 -- A departure applies: 01, 'Departures from the draft', 1 to 6, in its words. They are wider than the true differences.
--- Assumes nothing. 7, one queue and one limit, is outside the step comparison.
+-- Believed. Assumes nothing. 7, one queue and one limit, is outside the step comparison.
 use Prim.Native.Nat.{ℕ}
 use mathlib.Core.Bool.{Bool, not, _&&_, _||_}
 use mathlib.Core.List.{[], _∷_}

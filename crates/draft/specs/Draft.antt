@@ -1,5 +1,5 @@
 -- One step of the ICWS'94 draft on unpacked cells, in the manner of its sample interpreter: IR is the instruction as fetched, IRA and IRB the registers.
--- Assumes nothing. Of 01's machine it shares the record of a cell, with its number fields and codes, and nothing of operands or execution.
+-- Believed. Assumes nothing. Of 01's machine it shares the record of a cell, with its number fields and codes, and nothing of operands or execution.
 use Prim.Native.Nat.{ℕ, zero, suc, _+_, _-_, _*_, _/_, _%_}
 use mathlib.Core.Bool.{Bool, cond, not, _&&_}
 use mathlib.Core.List.{List, [], _∷_}

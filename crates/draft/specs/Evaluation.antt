@@ -1,5 +1,5 @@
 -- One operand of the ICWS'94 draft, in the manner and with the names of its sample interpreter.
--- Assumes nothing. Of 01's machine it shares the record of a cell, with its number fields and codes.
+-- Believed. Assumes nothing. Of 01's machine it shares the record of a cell, with its number fields and codes.
 use Prim.Native.Nat.{ℕ, _+_, _-_, _/_, _%_}
 use mathlib.Core.Bool.{cond}
 use mathlib.Core.List.{List, [], _∷_}

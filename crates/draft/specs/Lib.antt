@@ -1,5 +1,6 @@
+pub mod inner
 pub mod Evaluation
 pub mod Draft
 pub mod Comparison
 pub mod Departures
-pub mod Battles
+pub mod Agreement

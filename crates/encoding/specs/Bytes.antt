@@ -1,5 +1,5 @@
 -- Bytes: a part of them, and the numbers that they spell, little-endian (01, 'Match file').
--- Assumes nothing.
+-- Believed. Assumes nothing.
 use Prim.Native.Nat.{ℕ, zero, suc, _+_, _-_, _*_, _/_, _%_, _^_}
 use mathlib.Core.Bool.{cond}
 use mathlib.Core.List.{List, [], _∷_}

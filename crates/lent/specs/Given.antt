@@ -1,5 +1,5 @@
 -- What a call gives back, put together with the record that it leaves.
--- Assumes nothing.
+-- Believed. Assumes nothing.
 use Prim.Native.Nat.{ℕ}
 use Rattle.answer.specs.Numbers.{Told}
 use Rattle.machine.specs.State.{Machine, Outcome, toldBy}

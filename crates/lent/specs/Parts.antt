@@ -1,5 +1,5 @@
 -- A machine from the parts that a call is lent, and what a call does to it where its numbers are in range.
--- Assumes nothing.
+-- Believed. Assumes nothing.
 use Prim.Native.Nat.{ℕ}
 use mathlib.Core.Bool.{Bool, cond, not, _&&_}
 use mathlib.Core.List.{List, []}
@@ -26,6 +26,15 @@ namesOf held bytes lengths = record { held = held; bytes = bytes; lengths = leng
 abbrev pub headerOf : Rules → Ring → Roster → List ℕ → List ℕ → Header
 headerOf rules ring names counts threads =
     record { rules = rules; ring = ring; steps = 0; names = names; counts = counts; threads = threads }
+
+-- a machine from the parts that a step is lent
+abbrev pub parts : List ℕ → List ℕ → Rules → Ring → ℕ → Roster → List ℕ → List ℕ → Machine
+parts core queue rules ring steps names counts threads =
+    machineOf core queue (record { rules = rules; ring = ring; steps = steps; names = names; counts = counts; threads = threads })
+
+-- the same of how many names are held, and not their bytes
+abbrev pub unnamed : List ℕ → List ℕ → Rules → Ring → ℕ → ℕ → List ℕ → List ℕ → Machine
+unnamed core queue rules ring steps held counts threads = parts core queue rules ring steps (namesOf held [] []) counts threads
 
 abbrev pub noRing : Ring
 noRing = record { head = 0; length = 0 }

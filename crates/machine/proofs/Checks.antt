@@ -11,7 +11,7 @@ use Rattle.laws.specs.Lists.{every}
 use Rattle.laws.proofs.Tests.{both}
 use Rattle.machine.specs.State.{Machine, Outcome, Check, Verdict, accepted, refusal, first, passes, settle}
 
-abbrev isAccepted : Verdict → Bool
+abbrev pub isAccepted : Verdict → Bool
 isAccepted accepted = true
 isAccepted (refusal n v) = false
 
@@ -43,14 +43,16 @@ accepts (c ∷ cs) e = go (c .applies) e (accepts cs)
     go true e r = absurd (false≢true e)
     go false e r = r e
 
-pub accepted-passes : (cs : List Check) → first cs ≡ accepted → passes cs ≡ true
-accepted-passes [] e = refl
-accepted-passes (c ∷ cs) e = go (c .applies) e (accepted-passes cs)
+pub passes-accepted : (cs : List Check) → passes cs ≡ isAccepted (first cs)
+passes-accepted [] = refl
+passes-accepted (c ∷ cs) = go (c .applies) (passes-accepted cs)
   where
-    go : (b : Bool) → cond b (refusal (c .number) (c .value)) (first cs) ≡ accepted → (first cs ≡ accepted → passes cs ≡ true)
-        → (not b && passes cs) ≡ true
-    go true e r = absurd (false≢true (ap isAccepted e))
-    go false e r = r e
+    go : (b : Bool) → passes cs ≡ isAccepted (first cs) → (not b && passes cs) ≡ isAccepted (cond b (refusal (c .number) (c .value)) (first cs))
+    go true r = refl
+    go false r = r
+
+pub accepted-passes : (cs : List Check) → first cs ≡ accepted → passes cs ≡ true
+accepted-passes cs e = passes-accepted cs ∙ ap isAccepted e
 
 -- refused: the number is that of a row
 abbrev pub Numbers : (ℕ → Type 0) → List Check → Type 0

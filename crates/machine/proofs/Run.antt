@@ -1,8 +1,8 @@
 -- Laws of a run: it is 01's 'while' over its steps, and keeps what every step keeps.
 -- Assumes nothing.
 use Prim.Native.Nat.{ℕ, zero, suc, _+_, _-_, _≤_, _<_}
-use mathlib.Core.Path.{_≡_, refl, sym, ap, _∙_}
-use mathlib.Core.Bool.{Bool, true, false, cond, not}
+use mathlib.Core.Path.{_≡_, refl, sym, ap, subst, _∙_}
+use mathlib.Core.Bool.{Bool, true, false, cond, not, true≢false}
 use native.Mathlib.Nat.{add-zero}
 use native.Mathlib.Omega.{arith}
 use lib.Dec.{eqb}
@@ -10,14 +10,14 @@ use lib.ListN.{length}
 use borrow.Author.Tests.{eqb-true}
 use Rattle.machine.specs.declared.Ceiling.{Ceiling}
 use Rattle.machine.specs.declared.Ceiling.the-variants.{Steps}
-use Rattle.machine.specs.State.{Machine, Outcome, done, joined, accepted, refusal, settle}
+use Rattle.machine.specs.State.{Machine, Outcome, done, joined, accepted, refusal, first, settle}
 use Rattle.machine.specs.Soundness.{soundHeader}
-use Rattle.machine.specs.Step.{step, executes}
+use Rattle.machine.specs.Step.{step, stepChecks, executes}
 use Rattle.machine.specs.Run.{plays, ceilingOf, run}
 use Rattle.machine.proofs.Checks.{Refused, refused}
 use Rattle.machine.proofs.Names.{Shape}
 use Rattle.machine.proofs.Soundness.{SoundHeader, header-sound}
-use Rattle.machine.proofs.Step.{step-executed, step-counts, step-value, step-lengths, ready, step-sound}
+use Rattle.machine.proofs.Step.{is-executed, step-by-cases, step-executed, step-counts, step-value, step-lengths, ready, step-sound}
 
 -- an unsound header: 9, and nothing is done
 pub run-unsound : (c : Ceiling) (m : Machine) → soundHeader m ≡ false → run c m ≡ settle (refusal 9 0) m (plays (ceilingOf c - m .header .steps) m)
@@ -179,3 +179,34 @@ run-counts c m = go (soundHeader m)
         ≡ m .header .steps + settle (cond (not b) (refusal 9 0) accepted) m (plays k m) .steps
     go true = plays-counts k m
     go false = sym (add-zero (m .header .steps))
+
+-- a step answered 0 counts one
+pub step-counts-one : (m : Machine) → step m .number ≡ 0 → (k : ℕ) → step m .steps + k ≡ suc k
+step-counts-one m z k = let c : step m .steps ≡ 1 = step-executed m (ap executes z) .1 .counted in omega arith
+
+-- a refusal inside a run: a row applies to the step which it would take next, and up to there the steps are answered 0 and leave the same machine
+abbrev pub RefusedInside : Machine → Outcome → Type 0
+RefusedInside m o =
+    (first (stepChecks (o .machine)) ≡ refusal (o .number) (o .value)) × (plays (o .steps) m .number ≡ 0) × (o .machine ≡ plays (o .steps) m .machine)
+
+pub plays-refused : (k : ℕ) (m : Machine) → executes (plays k m .number) ≡ false → RefusedInside m (plays k m)
+plays-refused zero m f = absurd (true≢false f)
+plays-refused (suc k) m f = go (eqb (step m .number) 0) refl f (plays-refused k (step m .machine))
+  where
+    rest : Outcome
+    rest = plays k (step m .machine)
+
+    at-once : executes (step m .number) ≡ false → RefusedInside m (step m)
+    at-once =
+        step-by-cases (λ o. executes (o .number) ≡ false → RefusedInside m o) m (λ n v e x f. (e, refl, refl))
+        (λ e f. absurd (true≢false (sym (is-executed m .executes) ∙ f)))
+
+    go : (b : Bool) → eqb (step m .number) 0 ≡ b → executes (cond {A = Outcome} b (joined (step m) rest) (step m) .number) ≡ false
+        → (executes (rest .number) ≡ false → RefusedInside (step m .machine) rest)
+        → RefusedInside m (cond b (joined (step m) rest) (step m))
+    go true z f r =
+        let d : step m .number ≡ 0 = eqb-true _ _ z in
+        subst (λ (s : ℕ). (first (stepChecks (rest .machine)) ≡ refusal (rest .number) (rest .value)) × (plays s m .number ≡ 0) × (rest .machine ≡ plays s m .machine))
+        (sym (step-counts-one m d (rest .steps)))
+        (r f .0, rw z (r f .1), rw z (r f .2))
+    go false z f r = at-once f

@@ -1,7 +1,8 @@
 -- 01, 'Battles to prove': one table. Each row has what the definitions give, and what 01 says. The theorem is in proofs/Battles.antt.
--- Assumes nothing.
+-- Believed. Assumes nothing.
 use Prim.Native.Nat.{ℕ, _-_, _^_}
-use mathlib.Core.List.{List, [], _∷_, _++_}
+use mathlib.Core.Path.{_≡_}
+use mathlib.Core.List.{List, [], _∷_, _++_, map}
 use lib.IntN.{pos, negsuc}
 use lib.ListN.{length, getD, replicate}
 use Rattle.offset.specs.Offset.{euclid}
@@ -133,3 +134,7 @@ battles =
       wanted = says 0 0 0 (word SPL modifier.B mode.Direct 2 mode.Direct 0 ∷ []) (1 ∷ 0 ∷ []);
     }
     ∷ []
+
+-- every battle gives what is wanted
+abbrev pub BattlesHold : Type 0
+BattlesHold = map (λ (r : Row). r .got) battles ≡ map (λ (r : Row). r .wanted) battles

@@ -1,5 +1,5 @@
 -- The fresh machine (01, 'Queue and names').
--- Assumes nothing.
+-- Believed. Assumes nothing.
 use Prim.Native.Nat.{ℕ}
 use mathlib.Core.List.{List}
 use lib.ListN.{length, replicate}

@@ -1,5 +1,5 @@
 -- One instruction, from the core and its site alone: both operands, then what it does (01, 'Pointers', 'One step').
--- Assumes nothing.
+-- Believed. Assumes nothing.
 use Prim.Native.Nat.{ℕ}
 use mathlib.Core.List.{List, [], _∷_, _++_}
 use mathlib.Core.Option.{Option, none, some}

@@ -1,5 +1,5 @@
 -- Names (01, 'Queue and names'): 16 slots in the header, those below `held` in use.
--- Assumes nothing.
+-- Believed. Assumes nothing.
 use Prim.Native.Nat.{ℕ, _+_, _-_, _*_}
 use mathlib.Core.Bool.{Bool, cond, _&&_}
 use mathlib.Core.List.{List, _++_}

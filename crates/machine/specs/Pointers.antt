@@ -1,5 +1,5 @@
 -- One operand (01, 'Cells' for the modes, 'Pointers').
--- Assumes nothing.
+-- Believed. Assumes nothing.
 use Prim.Native.Nat.{ℕ, _-_}
 use mathlib.Core.List.{List, [], _∷_}
 use lib.ListN.{getD}

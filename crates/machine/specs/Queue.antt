@@ -1,5 +1,5 @@
 -- The queue (01, 'Queue and names'): entries, front, pop and push. Nothing else looks into the ring.
--- Assumes nothing.
+-- Believed. Assumes nothing.
 use Prim.Native.Nat.{ℕ, zero, suc, _+_, _-_, _*_, _/_, _%_, _^_}
 use mathlib.Core.Bool.{Bool}
 use mathlib.Core.List.{List, [], _∷_}

@@ -1,15 +1,15 @@
 -- Run and cell reading (01, 'One step', its last paragraph, and 'What a call gives back').
--- Assumes nothing.
+-- Believed. Assumes nothing.
 use Prim.Native.Nat.{ℕ, zero, suc, _-_}
 use mathlib.Core.Bool.{not}
-use mathlib.Core.List.{[], _∷_}
+use mathlib.Core.List.{List, [], _∷_}
 use lib.IntN.{ℤ}
 use lib.ListN.{getD}
 use Rattle.offset.specs.Offset.{euclid}
 use Rattle.cell.specs.Cells.{soundWord}
 use Rattle.machine.specs.declared.Ceiling.{Ceiling}
 use Rattle.machine.specs.declared.Ceiling.the-variants.{Unsaid, Steps}
-use Rattle.machine.specs.State.{Machine, Outcome, done, andThen, check, first, settle}
+use Rattle.machine.specs.State.{Machine, Outcome, done, andThen, Check, check, first, settle}
 use Rattle.machine.specs.Soundness.{soundHeader}
 use Rattle.machine.specs.Step.{step}
 
@@ -31,8 +31,10 @@ run ceiling m = settle (first (check (not (soundHeader m)) 9 ∷ [])) m (plays (
 abbrev pub wordAt : Machine → ℤ → ℕ
 wordAt m z = getD (m .core) (euclid z (m .header .rules .size)) 0
 
--- order of cell reading: 9 (header), 9 (cell); its value is the cell's word
+-- order of cell reading: 9 (header), 9 (cell)
+abbrev pub readChecks : Machine → ℤ → List Check
+readChecks m z = check (not (soundHeader m)) 9 ∷ check (not (soundWord (m .header .rules .size) (wordAt m z))) 9 ∷ []
+
+-- its value is the cell's word
 unfoldable pub read : Machine → ℤ → Outcome
-read m z =
-    settle (first (check (not (soundHeader m)) 9 ∷ check (not (soundWord (m .header .rules .size) (wordAt m z))) 9 ∷ [])) m
-    (record { machine = m; number = 0; value = wordAt m z; writes = 0; steps = 0; pushes = 0 })
+read m z = settle (first (readChecks m z)) m (record { machine = m; number = 0; value = wordAt m z; writes = 0; steps = 0; pushes = 0 })

@@ -1,5 +1,5 @@
 -- What fresh takes, and the sound record (01, 'What a call gives back', under the table).
--- Assumes nothing. That steps taken and next thread numbers are at most 4,294,967,295 holds by their type, u32.
+-- Believed. Assumes nothing. That steps taken and next thread numbers are at most 4,294,967,295 holds by their type, u32.
 use Prim.Native.Nat.{ℕ, _/_, _^_}
 use mathlib.Core.Bool.{Bool, not, _&&_, _||_}
 use mathlib.Core.List.{List, [], _∷_}

@@ -1,5 +1,5 @@
 -- The machine, what a call gives back, and the order of its refusals (01, 'What a call gives back').
--- Assumes nothing.
+-- Believed. Assumes nothing.
 use Prim.Native.Nat.{ℕ, _+_}
 use mathlib.Core.Bool.{Bool, cond, not}
 use mathlib.Core.List.{List, [], _∷_}

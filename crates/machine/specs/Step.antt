@@ -1,5 +1,5 @@
 -- One step (01, 'One step').
--- Assumes nothing.
+-- Believed. Assumes nothing.
 use Prim.Native.Nat.{ℕ, _+_}
 use mathlib.Core.Bool.{Bool, cond, not, _||_}
 use mathlib.Core.List.{List, [], _∷_}
@@ -99,18 +99,21 @@ executed m =
       pushes = q .pushes;
     }
 
--- 9 (header), 7, 9 (front entry), 8, 9 (executed cell), 10, 9 (other cells read)
-abbrev pub stepChecks : Machine → List Check
-stepChecks m =
+-- after the header's 9: 7, 9 (front entry), 8, 9 (executed cell), 10, 9 (other cells read)
+abbrev pub nextChecks : Machine → List Check
+nextChecks m =
     let h = m .header in
-    check (not (soundHeader m)) 9
-    ∷ check (eqb (h .ring .length) 0) 7
+    check (eqb (h .ring .length) 0) 7
     ∷ check (not (soundFront m)) 9
     ∷ check (eqb (h .steps) 4294967295 || eqb (getD (h .threads) (popped m .name) 0) 4294967295) 8
     ∷ check (not (soundWord (h .rules .size) (getD (m .core) (pc m) 0))) 9
     ∷ check (among (LDP ∷ STP ∷ []) (instruction m .opcode)) 10
     ∷ check (not (every (soundWord (h .rules .size)) (seenAt (site m) (m .core)))) 9
     ∷ []
+
+-- 9 (header) comes first
+abbrev pub stepChecks : Machine → List Check
+stepChecks m = check (not (soundHeader m)) 9 ∷ nextChecks m
 
 unfoldable pub step : Machine → Outcome
 step m = settle (first (stepChecks m)) m (executed m)

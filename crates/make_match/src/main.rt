@@ -62,6 +62,13 @@ fn tell_refused(r: Reading) {
     io::write_all(2, b"\n");
 }
 
+// Writes the file to standard output, or says that it takes no more.
+fn hand_out(file: &[u8]) {
+    if !io::write_all(1, file) {
+        io::write_all(2, b"make_match: standard output takes no more\n");
+    }
+}
+
 // Writes the file, or says what failed.
 fn give(r: Reading, odd: &[u8], even: &[u8]) {
     if r.wrong {
@@ -73,10 +80,10 @@ fn give(r: Reading, odd: &[u8], even: &[u8]) {
         return;
     }
     if r.warriors % 2 == 0 {
-        io::write_all(1, part(even, 0, r.length));
+        hand_out(part(even, 0, r.length));
         return;
     }
-    io::write_all(1, part(odd, 0, r.length));
+    hand_out(part(odd, 0, r.length));
 }
 
 // Makes the file of a text.
@@ -108,6 +115,12 @@ fn file_memory() -> [u8; 32768]
     [0; 32768]
 }
 
+// Whether standard input fails where reading stopped; at its end it does not.
+fn fails() -> bool {
+    let mut more = [0u8; 1];
+    libc::read(0, &mut more) < 0
+}
+
 // A text of 65,536 bytes has at most 5,460 instructions: 65,520 bytes of a body.
 fn main() {
     let mut text = text_memory();
@@ -117,6 +130,10 @@ fn main() {
     let n = io::read_full(0, &mut text);
     if n > 65536 {
         io::write_all(2, b"make_match: the text is longer than 65536 bytes\n");
+        return;
+    }
+    if fails() {
+        io::write_all(2, b"make_match: standard input cannot be read\n");
         return;
     }
     make(&text[..n], &mut body, &mut odd, &mut even);

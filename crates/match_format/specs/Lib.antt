@@ -1,3 +1,3 @@
+pub mod inner
 pub mod Format
 pub mod Faults
-pub mod Damaged

@@ -15,7 +15,8 @@ use Rattle.match_format.specs.Faults.{linesFault, fault}
 use Rattle.match_file.specs.Reading.{toldBy, zeroed, warriorsIn, sizeIn, warriorsAt, warriorsOf}
 use Rattle.match_format.proofs.Whole.{head-ok}
 use Rattle.match_file.proofs.Values.{warrior-reads}
-use Rattle.match_write.specs.Writing.{Given, given, settle, malformed, checks, write, writeAdded, Earlier}
+use Rattle.write_checks.specs.Refusal.{Written, given, settle}
+use Rattle.match_write.specs.Writing.{malformed, checks, write, writeAdded, Earlier}
 
 -- none before the first warrior
 pub none : Earlier [] 0 0
@@ -52,7 +53,7 @@ module _ (f : List ℕ) where
     unfolding writeAdded
     refused answer {n} t d z = refused-or (fault f) refl answer n t d z
 
-    pub added : fault f ≡ Nowhere → {n size : ℕ} {X : Given} → n ≡ warriorsIn f → size ≡ sizeIn f → X ≡ write size (warriorsAt f 4 n) w out
+    pub added : fault f ≡ Nowhere → {n size : ℕ} {X : Written} → n ≡ warriorsIn f → size ≡ sizeIn f → X ≡ write size (warriorsAt f 4 n) w out
         → X ≡ writeAdded f w out
     unfolding write writeAdded
     added e {n} {size} d s x =

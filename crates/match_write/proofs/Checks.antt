@@ -1,135 +1,103 @@
 -- What writing gives: its refusals in their order, and a warrior that passes the checks.
 -- Assumes nothing.
 use mathlib.Core.Path.{_≡_, refl, sym, ap, ap₂, _∙_}
-use mathlib.Core.Bool.{Bool, true, false, not, _&&_, _||_}
+use mathlib.Core.Bool.{Bool, true, false, not}
 use mathlib.Core.List.{List, [], _∷_, _++_}
 use Prim.Native.Nat.{ℕ, _+_, _-_, _*_, _≤_, _<_}
 use native.Mathlib.Omega.{arith}
 use lib.Dec.{leb, ltb}
 use lib.ListN.{length, length-drop}
 use lib.Seq.{sets}
-use borrow.Author.Tests.{leb-true, leb-false, ltb-true, ltb-false, le-leb, lt-leb, lt-ltb, le-ltb}
+use borrow.Author.Tests.{leb-false, ltb-false, not-false}
 use Rattle.answer.specs.declared.Answer.{Answer}
-use Rattle.answer.specs.declared.Answer.the-variants.{Done, InvalidCoreSize, WarriorTooLong, InvalidCode, InvalidNameOrPlace, NoRoom}
-use Rattle.laws.proofs.Tests.{both, and-false}
-use Rattle.program.specs.Program.{instructions, lowestFault}
+use Rattle.answer.specs.declared.Answer.the-variants.{Done}
+use Rattle.answer.specs.Numbers.{Told, told}
+use Rattle.laws.proofs.Tests.{neither}
 use Rattle.metadata.specs.Metadata.{validName}
 use Rattle.metadata.proofs.Names.{valid-name}
-use Rattle.machine.specs.State.{Verdict, accepted, first}
-use Rattle.machine.specs.Soundness.{validSize}
+use Rattle.machine.specs.State.{Check, Verdict, accepted, refusal, first}
+use Rattle.machine.proofs.Checks.{passed, without, others}
 use Rattle.match_format.specs.Format.{Warrior, file}
 use Rattle.match_file.specs.Reading.{warriorsAt}
 use Rattle.match_format.proofs.Format.{length-more}
 use Rattle.match_file.proofs.Warriors.{length-warriors, bodies-are, short-names}
-use Rattle.match_write.specs.Writing.{Given, given, settle, checks, write, Earlier}
+use Rattle.write_checks.specs.Refusal.{Written, given, settle, writeChecks, writeTold}
+use Rattle.match_write.specs.Writing.{checks, write, Earlier}
 use Rattle.laws.proofs.Stores.{stored}
 
-pub refusing : {answer A : Answer} {n : ℕ} (out : List ℕ) {X : Given} → (answer ≡ A) × (n ≡ 0) → given A 0 out ≡ X → given answer n out ≡ X
+pub refusing : {answer A : Answer} {n : ℕ} (out : List ℕ) {X : Written} → (answer ≡ A) × (n ≡ 0) → given A 0 out ≡ X → given answer n out ≡ X
 refusing out r e = ap₂ (λ (a : Answer) (k : ℕ). given a k out) (r .0) (r .1) ∙ e
-
--- whether n warriors and one more, with bodies of those lengths, are at most 16 and fit
-module _ (n rest len room : ℕ) where
-  pub too-many : 15 < n → false ≡ (ltb n 16 && leb (4 + 43 * (n + 1) + rest + len) room)
-  too-many h = simp (le-ltb n 16 (omega arith))
-
-  pub room-for : (ltb n 16 && leb (4 + 43 * (n + 1) + rest + len) room) ≡ true → (n < 16) × (4 + 43 * (n + 1) + rest + len ≤ room)
-  room-for e = let k = both (ltb n 16) (leb (4 + 43 * (n + 1) + rest + len) room) e in (ltb-true n 16 (k .0), leb-true (4 + 43 * (n + 1) + rest + len) room (k .1))
-
-  module _ (h : n ≤ 15) where
-    pub too-short : room < 4 + 43 * (n + 1) + rest + len → false ≡ (ltb n 16 && leb (4 + 43 * (n + 1) + rest + len) room)
-    too-short k = simp (lt-ltb n 16 (omega arith), lt-leb (4 + 43 * (n + 1) + rest + len) room k)
-
-    pub left-over : 4 + 43 * (n + 1) ≤ room → rest ≤ room - (4 + 43 * (n + 1))
-        → leb len (room - (4 + 43 * (n + 1)) - rest) ≡ (ltb n 16 && leb (4 + 43 * (n + 1) + rest + len) room)
-    left-over k l = simp (lt-ltb n 16 (omega arith)) (go (leb len (room - (4 + 43 * (n + 1)) - rest)) refl)
-      where
-        go : (b : Bool) → leb len (room - (4 + 43 * (n + 1)) - rest) ≡ b → b ≡ leb (4 + 43 * (n + 1) + rest + len) room
-        go true e = sym (le-leb (4 + 43 * (n + 1) + rest + len) room (let g = leb-true len _ e in omega arith))
-        go false e = sym (lt-leb (4 + 43 * (n + 1) + rest + len) room (let g = leb-false len _ e in omega arith))
-
--- a 17th warrior, or an output that is too short
-full-or-not : (n r m : ℕ) → (leb 16 n || ltb m r) ≡ not (ltb n 16 && leb r m)
-full-or-not n r m = go (ltb n 16) refl (leb r m) refl
-  where
-    go : (a : Bool) → ltb n 16 ≡ a → (b : Bool) → leb r m ≡ b → (leb 16 n || ltb m r) ≡ not (a && b)
-    go true e true g = simp (lt-leb 16 n (ltb-true n 16 e), le-ltb m r (leb-true r m g))
-    go true e false g = simp (lt-leb 16 n (ltb-true n 16 e), lt-ltb m r (leb-false r m g))
-    go false e b g = simp (le-leb 16 n (ltb-false n 16 e))
 
 module _ (f : List ℕ) (n start size : ℕ) (w : Warrior) (out : List ℕ) (earlier : Earlier f n start) where
   abbrev ws : List Warrior
   ws = warriorsAt f 4 n
 
-  abbrev Gives : Answer → Type 0
-  Gives A = given A 0 out ≡ write size ws w out
-
   abbrev room : ℕ
   room = 4 + 43 * (n + 1) + (length f - start) + length (w .body)
 
-  refused : validSize size ≡ false → Gives InvalidCoreSize
-  unfolding write
-  refused t = simp t
+  how-many : length ws ≡ n
+  how-many = length-warriors f 4 n
 
-  pub too-small : size < 1 → Gives InvalidCoreSize
-  too-small l = refused (simp (lt-leb 1 size l))
+  how-long : validName (w .name) ≡ true → length (file size (ws ++ (w ∷ []))) ≡ room
+  how-long v =
+      length-more size n ws w how-many (short-names f 4 start n (earlier .lines)) (valid-name (w .name) v .0)
+      ∙ ap (λ (k : ℕ). 4 + 43 * (n + 1) + k + length (w .body)) (ap length (bodies-are f 4 start n (earlier .lines)) ∙ length-drop start f)
 
-  pub too-large : 46341 < size → Gives InvalidCoreSize
-  too-large l = refused (simp (lt-leb size 46341 l, and-false))
+  -- the checks by numbers; a name that is too long is refused before the file's length is asked for
+  same-first : first (checks size ws w (length out)) ≡ first (writeChecks size n (w .name) (w .body) (w .place) room (length out))
+  same-first = go (validName (w .name)) refl
+    where
+      go : (b : Bool) → validName (w .name) ≡ b
+          → first (checks size ws w (length out)) ≡ first (writeChecks size n (w .name) (w .body) (w .place) room (length out))
+      go true v = ap₂ (λ (x y : ℕ). first (writeChecks size x (w .name) (w .body) (w .place) y (length out))) how-many (how-long v)
+      go false v = simp v
 
-  module _ (l₁ : 1 ≤ size) (l₂ : size ≤ 46341) (count : ℕ) (ec : count ≡ instructions (w .body)) where
-    sized : validSize size ≡ true
-    sized = simp (le-leb 1 size l₁, le-leb size 46341 l₂)
+  module _ (answer : Answer) (et : told answer ≡ writeTold size n (w .name) (w .body) (w .place) room (length out)) {r : ℕ} (er : r ≡ told answer .number) where
+    abbrev verdict : Verdict
+    verdict = first (writeChecks size n (w .name) (w .body) (w .place) room (length out))
 
-    pub too-long : size < count → Gives WarriorTooLong
-    unfolding write
-    too-long h = simp (sized, lt-ltb size (instructions (w .body)) (omega arith))
+    number-in : (v : Verdict) → verdict ≡ v → r ≡ settle v [] [] .told .number
+    unfolding writeTold
+    number-in v e = er ∙ ap (λ (x : Told). x .number) (et ∙ ap (λ (v : Verdict). settle v [] [] .told) e)
 
-    module _ (l : count ≤ size) (fault : ℕ) (ef : fault ≡ lowestFault (w .body)) where
-      fits : ltb size (instructions (w .body)) ≡ false
-      fits = le-ltb size (instructions (w .body)) (omega arith)
+    -- a refusal
+    pub refused-is : (r ≡ 0 → ⊥) → given answer 0 out ≡ write size ws w out
+    unfolding write writeTold
+    refused-is z = go verdict refl
+      where
+        go : (v : Verdict) → verdict ≡ v → given answer 0 out ≡ write size ws w out
+        go accepted e = absurd (z (number-in accepted e))
+        go (refusal k x) e =
+            ap (λ (t : Told). record { told = t; length = 0; output = out }) (et ∙ ap (λ (v : Verdict). settle v [] [] .told) e)
+            ∙ ap (λ (v : Verdict). settle v (file size (ws ++ (w ∷ []))) out) {x = refusal k x} (sym (same-first ∙ e))
 
-      pub bad-code : fault < count → Gives (InvalidCode fault)
+    module _ (z : r ≡ 0) where
+      all-passed : verdict ≡ accepted
+      all-passed = go verdict refl
+        where
+          rows : List Check
+          rows = writeChecks size n (w .name) (w .body) (w .place) room (length out)
+
+          go : (v : Verdict) → verdict ≡ v → verdict ≡ accepted
+          go accepted e = e
+          go (refusal k x) e = absurd (without 0 rows (others 0 rows refl) k x e (sym (number-in (refusal k x) e) ∙ z))
+
+      -- what the store asks
+      pub fits : (n ≤ 15) × (length (w .name) ≤ 32) × (room ≤ length out)
+      fits =
+          let p = passed (writeChecks size n (w .name) (w .body) (w .place) room (length out)) all-passed in
+          let five = neither (not (validName (w .name))) (leb size (w .place)) (p .1 .1 .1 .0) in
+          let six = neither (leb 16 n) (ltb (length out) room) (p .1 .1 .1 .1 .0) in
+          let few : n < 16 = leb-false 16 n (six .0) in
+          (omega arith, valid-name (w .name) (not-false _ (five .0)) .0, ltb-false (length out) room (six .1))
+
+      pub written : {t : ℕ} {after : List ℕ} → t ≡ room → after ≡ sets out 0 (file size (ws ++ (w ∷ []))) → given Done t after ≡ write size ws w out
       unfolding write
-      bad-code h = ap (λ (k : ℕ). given (InvalidCode k) 0 out) ef ∙ simp (sized, fits, lt-ltb (lowestFault (w .body)) (instructions (w .body)) (omega arith))
-
-      module _ (k : count ≤ fault) where
-        lawful-body : ltb (lowestFault (w .body)) (instructions (w .body)) ≡ false
-        lawful-body = le-ltb (lowestFault (w .body)) (instructions (w .body)) (omega arith)
-
-        pub bad-name : validName (w .name) ≡ false → Gives InvalidNameOrPlace
-        unfolding write
-        bad-name h = simp (sized, fits, lawful-body, h)
-
-        module _ (v : validName (w .name) ≡ true) where
-          pub bad-place : size ≤ w .place → Gives InvalidNameOrPlace
-          unfolding write
-          bad-place h = simp (sized, fits, lawful-body, v, le-leb size (w .place) h)
-
-          module _ (p : w .place < size) where
-            how-many : length ws ≡ n
-            how-many = length-warriors f 4 n
-
-            pub how-long : length (file size (ws ++ (w ∷ []))) ≡ room
-            how-long =
-                length-more size n ws w how-many (short-names f 4 start n (earlier .lines)) (valid-name (w .name) v .0)
-                ∙ ap (λ (k : ℕ). 4 + 43 * (n + 1) + k + length (w .body)) (ap length (bodies-are f 4 start n (earlier .lines)) ∙ length-drop start f)
-
-            sixth : (leb 16 (length ws) || ltb (length out) (length (file size (ws ++ (w ∷ []))))) ≡ not (ltb n 16 && leb room (length out))
-            sixth = ap₂ (λ (x y : ℕ). leb 16 x || ltb (length out) y) how-many how-long ∙ full-or-not n room (length out)
-
-            pub no-room : (ltb n 16 && leb room (length out)) ≡ false → Gives NoRoom
-            unfolding write
-            no-room e = simp (sized, fits, lawful-body, v, lt-leb size (w .place) p, sixth, e)
-
-            pub written : (ltb n 16 && leb room (length out)) ≡ true → {t : ℕ} {after : List ℕ} → t ≡ room → after ≡ sets out 0 (file size (ws ++ (w ∷ [])))
-                → given Done t after ≡ write size ws w out
-            unfolding write
-            written e d s =
-                let made : List ℕ = file size (ws ++ (w ∷ [])) in
-                let l = room-for n (length f - start) (length (w .body)) (length out) e .1 in
-                let h : length made ≡ room = how-long in
-                ap₂ (λ (k : ℕ) (o : List ℕ). given Done k o) (d ∙ sym h) (s ∙ stored out made (omega arith))
-                ∙ ap (λ (x : Verdict). settle x made out) {x = accepted} (sym passed)
-              where
-                passed : first (checks size ws w (length out)) ≡ accepted
-                passed = simp (sized, fits, lawful-body, v, lt-leb size (w .place) p, sixth, e)
+      written d s =
+          let made : List ℕ = file size (ws ++ (w ∷ [])) in
+          let p = passed (writeChecks size n (w .name) (w .body) (w .place) room (length out)) all-passed in
+          let five = neither (not (validName (w .name))) (leb size (w .place)) (p .1 .1 .1 .0) in
+          let h : length made ≡ room = how-long (not-false _ (five .0)) in
+          let l = fits .2 in
+          ap₂ (λ (k : ℕ) (o : List ℕ). given Done k o) (d ∙ sym h) (s ∙ stored out made (omega arith))
+          ∙ ap (λ (x : Verdict). settle x made out) {x = accepted} (sym (same-first ∙ all-passed))

@@ -1,2 +1,2 @@
+pub mod inner
 pub mod Writing
-pub mod Examples

@@ -1,6 +1,6 @@
 // Plays one match file after another as `play` does: standard input has each file's length in three bytes, little-endian, and then the file.
-use battle::file_memory;
 use battle::print;
+use memory::file_memory;
 
 // A byte as a wider number.
 fn wide(b: u8) -> usize {

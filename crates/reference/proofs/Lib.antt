@@ -15,6 +15,7 @@ pub mod Bodies
 pub mod Registering
 pub mod Loading
 pub mod Running
+pub mod Without
 pub mod Loops
 pub mod Refinement
 mod Example

@@ -2,7 +2,7 @@
 -- Assumes nothing.
 use Prim.Native.Nat.{ℕ, zero, suc, _-_, _^_}
 use mathlib.Core.Path.{_≡_, refl, sym, ap, subst, _∙_}
-use mathlib.Core.Bool.{true, false}
+use mathlib.Core.Bool.{Bool, true, false}
 use mathlib.Core.List.{List, [], _∷_, map}
 use mathlib.Core.Option.{some}
 use native.Mathlib.Omega.{arith}
@@ -22,10 +22,11 @@ use Rattle.account.proofs.NeverNine.{call-sound}
 use Rattle.reference.specs.Types.{Instruction, default}
 use Rattle.reference.specs.Core.{Core, new}
 use Rattle.reference.specs.Same.{wordOf, Same}
-use Rattle.reference.specs.Refinement.{Given, meets, answered, Domain, returned, Agrees, Refinement}
+use Rattle.reference.specs.Refinement.{Given, meets, answered, InDomain, Domain, returned, rust, matching, Agrees, Refinement}
 use Rattle.reference.proofs.Stepping.{Agreed, step-agrees}
 use Rattle.reference.proofs.Loading.{load-agrees}
 use Rattle.reference.proofs.Running.{run-agrees}
+use Rattle.reference.proofs.Without.{without-agrees}
 
 -- one call
 call-agrees : (x : Call) (m : Machine) (c : Core) → SoundMachine m → Same m c → Given x → answered (outcome x m .number) ≡ true → meets x m ≡ false
@@ -35,12 +36,19 @@ call-agrees (Load name body origin place) m c s same given a f =
 call-agrees Step m c s same given a f = step-agrees m c s same a f
 call-agrees (Run ceiling) m c s same given a f = run-agrees ceiling m c s same a f
 
+-- a call that is answered so, and one that is not
+either-agrees : (b : Bool) (x : Call) (m : Machine) (c : Core) → SoundMachine m → Same m c → answered (outcome x m .number) ≡ b → InDomain b x m
+    → (rust b x m c .answer ≡ matching b (outcome x m .number) (outcome x m .value)) × Same (outcome x m .machine) (rust b x m c .core)
+either-agrees true x m c s same a d = let r = call-agrees x m c s same (d .0) a (d .1) in (r .answer, r .same)
+either-agrees false x m c s same a d = without-agrees x m c s same a d
+
 -- every list
 lists-agree : (xs : List Call) (m : Machine) (c : Core) → SoundMachine m → Same m c → Domain xs m → Agrees xs m c
 lists-agree [] m c s same d = same
 lists-agree (x ∷ xs) m c s same d =
-    let a = call-agrees x m c s same (d .0) (d .1) (d .2) in
-    (same, a .answer, lists-agree xs (outcome x m .machine) (returned x c .core) (call-sound x m s) (a .same) (d .3))
+    let b = answered (outcome x m .number) in
+    let a = either-agrees b x m c s same refl (d .0) in
+    (same, a .0, lists-agree xs (outcome x m .machine) (rust b x m c .core) (call-sound x m s) (a .1) (d .1))
 
 -- fresh cells are the Rust's default instructions
 fresh-cells : (n : ℕ) → replicate n default ≡ map wordOf (replicate n freshCell)

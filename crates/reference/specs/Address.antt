@@ -1,5 +1,5 @@
 -- address.rs: a pointer resolved, and its effects before and after.
--- Assumes nothing. An index is an Offset of this core, so it is below its length.
+-- Believed. Assumes nothing. An index is an Offset of this core, so it is below its length.
 use Prim.Native.Nat.{ℕ}
 use mathlib.Core.List.{List}
 use lib.IntN.{ℤ, pos, _+ℤ_, _-ℤ_}

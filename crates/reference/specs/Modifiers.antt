@@ -1,5 +1,5 @@
 -- modifier.rs: the executor with both operands evaluated, and closures run on its registers by modifier.
--- Assumes nothing.
+-- Believed. Assumes nothing.
 use Prim.Native.Nat.{ℕ}
 use mathlib.Core.List.{List}
 use mathlib.Core.Option.{Option, none, some}

@@ -1,5 +1,5 @@
 -- offset.rs: an offset of a circular core, and its operators. An Offset is its value; its core_size is the core's length, and stands as the first argument of each operation.
--- Assumes nothing.
+-- Believed. Assumes nothing.
 -- A number of 32 bits is an integer. A sum or a difference that leaves them wraps round, as in a build without overflow checks;
 -- it needs a core of more than 2 ^ 30 cells. A product that leaves them panics, as in a build with them (Opcodes); it needs more than 46,341.
 use Prim.Native.Nat.{ℕ, _/_, _%_, _^_}

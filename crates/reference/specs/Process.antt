@@ -1,5 +1,5 @@
 -- process.rs: the queue of entries, the processes and next thread numbers by name, pop and push.
--- Assumes nothing. A map is the list of its keys and values, a new key last: the order in which the Rust's map keeps them is never looked at.
+-- Believed. Assumes nothing. A map is the list of its keys and values, a new key last: the order in which the Rust's map keeps them is never looked at.
 use Prim.Native.Nat.{ℕ, _+_, _-_}
 use mathlib.Core.Bool.{cond}
 use mathlib.Core.List.{List, [], _∷_, _++_}

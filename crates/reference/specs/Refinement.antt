@@ -1,5 +1,5 @@
 -- The Rust's domain (01, its last sentence before 'Departures from the draft'), and the statement that our machine agrees with the Rust there.
--- Assumes nothing.
+-- Believed. Assumes nothing.
 use Prim.Native.Nat.{ℕ, zero, suc, _-_, _≤_}
 use mathlib.Core.Path.{_≡_}
 use mathlib.Core.Bool.{Bool, true, false, cond, not, _&&_, _||_}
@@ -50,10 +50,22 @@ meets (Run ceiling) m = meetsPlays (ceilingOf ceiling - m .header .steps) m
 abbrev pub answered : ℕ → Bool
 answered n = not (among (1 ∷ 2 ∷ 4 ∷ 5 ∷ 6 ∷ 8 ∷ 9 ∷ 10 ∷ 13 ∷ []) n)
 
+-- a call that is answered otherwise, 4, 5, 6, 8, 9 or 10, leaves the machine as it was, in a run since its last step: the list goes on without it,
+-- and of a run the steps that it took are compared
+abbrev pub meetsBefore : Call → Machine → Bool
+meetsBefore (Load name body origin place) m = false
+meetsBefore Step m = false
+meetsBefore (Run ceiling) m = meetsPlays (outcome (Run ceiling) m .steps) m
+
+-- a call is in the domain: one that is answered so, and one that is not
+abbrev pub InDomain : Bool → Call → Machine → Type 0
+InDomain true x m = Given x × (meets x m ≡ false)
+InDomain false x m = meetsBefore x m ≡ false
+
 -- every call of the list is in the domain
 abbrev pub Domain : List Call → Machine → Type 0
 Domain [] m = Unit {0}
-Domain (x ∷ xs) m = Given x × (answered (outcome x m .number) ≡ true) × (meets x m ≡ false) × Domain xs (outcome x m .machine)
+Domain (x ∷ xs) m = InDomain (answered (outcome x m .number)) x m × Domain xs (outcome x m .machine)
 
 -- the Rust's call
 abbrev pub cyclesOf : Ceiling → Option ℕ
@@ -65,6 +77,12 @@ returned (Load name body origin place) c = load-warrior (warriorOf name body ori
 returned Step c = Rust.step c
 returned (Run ceiling) c = run (cyclesOf ceiling) c
 
+-- without a call the Rust does nothing; of a run it does the steps that were taken
+abbrev pub without : Call → Machine → Core → Returned
+without (Load name body origin place) m c = record { core = c; answer = Ok }
+without Step m c = record { core = c; answer = Ok }
+without (Run ceiling) m c = run (some (outcome (Run ceiling) m .machine .header .steps)) c
+
 -- what the Rust returns for 0, 3, 7, 11 with its place, 12; no other number is answered in the domain
 abbrev pub answerOf : ℕ → ℕ → Answer
 answerOf n v =
@@ -75,12 +93,22 @@ answerOf n v =
     (cond (eqb n 12) (Err DivideByZero)
     Panic))))
 
+-- what the Rust does, with the call or without it, and the answer that it returns then
+abbrev pub rust : Bool → Call → Machine → Core → Returned
+rust true x m c = returned x c
+rust false x m c = without x m c
+
+abbrev pub matching : Bool → ℕ → ℕ → Answer
+matching true n v = answerOf n v
+matching false n v = Ok
+
 -- the states are the same before the calls and after each, and each answer is the Rust's
 abbrev pub Agrees : List Call → Machine → Core → Type 0
 Agrees [] m c = Same m c
 Agrees (x ∷ xs) m c =
     let o = outcome x m in
-    Same m c × (returned x c .answer ≡ answerOf (o .number) (o .value)) × Agrees xs (o .machine) (returned x c .core)
+    let r = rust (answered (o .number)) x m c in
+    Same m c × (r .answer ≡ matching (answered (o .number)) (o .number) (o .value)) × Agrees xs (o .machine) (r .core)
 
 -- THE STATEMENT. Where fresh makes a machine, the Rust makes a core of that size, and they agree over every list of calls in the domain
 abbrev pub Refinement : Type 0

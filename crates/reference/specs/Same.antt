@@ -1,6 +1,6 @@
 -- What of our machine is the same as what of the Rust's: cells, queue in order, count and next thread number of every name, steps taken.
 -- And what the Rust is given for a load.
--- Assumes nothing.
+-- Believed. Assumes nothing.
 use Prim.Native.Nat.{ℕ}
 use mathlib.Core.Path.{_≡_}
 use mathlib.Core.Bool.{cond}

@@ -1,5 +1,5 @@
 -- types.rs, load_file.rs, program.rs, metadata.rs: codes, fields, instructions, the default modifier, what of a warrior is loaded.
--- Assumes nothing. A Value is its literal: what has a label is not loaded.
+-- Believed. Assumes nothing. A Value is its literal: what has a label is not loaded.
 use Prim.Native.Nat.{ℕ}
 use mathlib.Core.Bool.{Bool, false, cond, _&&_}
 use mathlib.Core.List.{List}

@@ -27,7 +27,8 @@ use Rattle.match_format.proofs.Numbers.{number-lt}
 use Rattle.match_format.proofs.Chains.{all-right}
 use Rattle.match_format.proofs.Whole.{first-line, later-lines, LineAt, line-at}
 use Rattle.match_file.proofs.Warriors.{length-body, count-is}
-use Rattle.match_write.specs.Writing.{settle, checks}
+use Rattle.write_checks.specs.Refusal.{settle}
+use Rattle.match_write.specs.Writing.{checks}
 
 -- no row has the number 0, so a call that answers 0 was accepted
 abbrev Refuses : ℕ → Type 0

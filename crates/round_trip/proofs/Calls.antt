@@ -14,7 +14,8 @@ use Rattle.match_format.specs.declared.Fault.the-variants.{Nowhere, At}
 use Rattle.match_format.specs.Format.{Warrior, file}
 use Rattle.match_format.specs.Faults.{fault}
 use Rattle.match_file.specs.Reading.{sizeIn, warriorsOf}
-use Rattle.match_write.specs.Writing.{settle, malformed, checks, write, writeFirst, writeAdded}
+use Rattle.write_checks.specs.Refusal.{settle}
+use Rattle.match_write.specs.Writing.{malformed, checks, write, writeFirst, writeAdded}
 use Rattle.round_trip.specs.Calls.{made, Done}
 use Rattle.round_trip.proofs.Accept.{accepted-of, refusals}
 

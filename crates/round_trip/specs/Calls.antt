@@ -1,5 +1,5 @@
 -- Calls of the writer, one after the other, and what the reader's calls give of a file.
--- Assumes nothing.
+-- Believed. Assumes nothing.
 use Prim.Native.Nat.{ℕ, suc, _<_}
 use mathlib.Core.Path.{_≡_}
 use mathlib.Core.List.{List, [], _∷_}
@@ -10,14 +10,15 @@ use Rattle.match_format.specs.declared.Fault.the-variants.{Nowhere}
 use Rattle.match_format.specs.Format.{Warrior, warrior}
 use Rattle.match_format.specs.Faults.{fault, faultAt}
 use Rattle.match_file.specs.Reading.{warriorsIn, sizeIn, countOf, warriorOf}
-use Rattle.match_write.specs.Writing.{Given, writeFirst, writeAdded}
+use Rattle.write_checks.specs.Refusal.{Written}
+use Rattle.match_write.specs.Writing.{writeFirst, writeAdded}
 
 -- the file that a call made: as many bytes of the output as it wrote
-abbrev pub made : Given → List ℕ
+abbrev pub made : Written → List ℕ
 made g = take (g .length) (g .output)
 
 -- a call that answers 0
-abbrev pub Done : Given → Type 0
+abbrev pub Done : Written → Type 0
 Done g = g .told ≡ gives 0 0
 
 -- the writer accepts M and a warrior, in some output

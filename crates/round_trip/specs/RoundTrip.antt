@@ -1,5 +1,5 @@
 -- The round trip of match files (01, 'Match file'): what is claimed. The proofs are in proofs/RoundTrip.antt.
--- Assumes nothing.
+-- Believed. Assumes nothing.
 use Prim.Native.Nat.{ℕ, _≤_, _<_}
 use mathlib.Core.Path.{_≡_}
 use mathlib.Core.List.{List, [], _∷_, _++_}

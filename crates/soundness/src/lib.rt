@@ -9,6 +9,8 @@ ghost use Rattle.metadata.specs.Metadata.{validName};
 ghost use Rattle.machine.specs.Names.{nameAt, names};
 ghost use Rattle.machine.specs.Soundness.{soundHeader, soundEntry};
 ghost use Rattle.lent.specs.Parts.{namesOf, headerOf, noRing, machineOf, validLength};
+ghost use Rattle.soundness.specs.inner.Keys.{keyOf, Keyed};
+use encoding::byte;
 use entry::unpack;
 use machine::Ring;
 use machine::Rules;
@@ -54,15 +56,71 @@ fn names_valid<'a>(names: &'a [u8; 512], lengths: &'a [u8; 16], held: usize) -> 
     true
 }
 
+// The key of a name: its length, and its first, second and last byte.
+fn key_of(name: &[u8]) -> u32
+    ensures { λ r. ⌜ r ≡ keyOf (now (name .entry)) ⌝ }
+{
+    let n = name.len();
+    if n == 0 {
+        return 0;
+    }
+    let size = (n % 256) as u32;
+    let first = byte(name, 0) as u32;
+    let second = byte(name, 1) as u32;
+    let end = n - 1;
+    let last = byte(name, end) as u32;
+    let key = size + first * 256 + second * 65536 + last * 16777216;
+    key
+}
+
+// The key of each name held.
+fn keys_of<'a>(names: &'a [u8; 512], lengths: &'a [u8; 16], held: usize) -> [u32; 16]
+    requires { ⌜ held ≤ 16 ⌝ }
+    ensures { λ r. ⌜ Keyed (now (names .entry)) (now (lengths .entry)) r held ⌝ }
+{
+    let mut keys: [u32; 16] = [0; 16];
+    let mut i: usize = 0;
+    while i < held {
+        let key = key_of(name_at(names, lengths, i));
+        keys[i] = key;
+        i += 1;
+    }
+    keys
+}
+
+// Whether two names held are alike: where their keys are, their bytes are compared.
+fn alike<'a>(
+    names: &'a [u8; 512],
+    lengths: &'a [u8; 16],
+    keys: &'a [u32; 16],
+    held: usize,
+    i: usize,
+    j: usize,
+) -> bool
+    requires { ⌜ Keyed (now names) (now lengths) (now keys) held × (held ≤ 16) × (i < held) × (j < held) ⌝ }
+    ensures { λ r. ⌜ r ≡ same (nameAt (namesOf 0 (now (names .entry)) (now (lengths .entry))) i) (nameAt (namesOf 0 (now (names .entry)) (now (lengths .entry))) j) ⌝ }
+{
+    if keys[i] != keys[j] {
+        return false;
+    }
+    equal(name_at(names, lengths, i), name_at(names, lengths, j))
+}
+
 // Whether a name is unlike those held after it.
-fn is_unlike<'a>(names: &'a [u8; 512], lengths: &'a [u8; 16], i: usize, held: usize) -> bool
-    requires { ⌜ (i < held) × (held ≤ 16) ⌝ }
+fn is_unlike<'a>(
+    names: &'a [u8; 512],
+    lengths: &'a [u8; 16],
+    keys: &'a [u32; 16],
+    i: usize,
+    held: usize,
+) -> bool
+    requires { ⌜ Keyed (now names) (now lengths) (now keys) held × (i < held) × (held ≤ 16) ⌝ }
     ensures { λ r. ⌜ r ≡ eqb (tally (same (nameAt (namesOf 0 (now (names .entry)) (now (lengths .entry))) i))
         (table (nameAt (namesOf 0 (now (names .entry)) (now (lengths .entry)))) (i + 1) (held - (i + 1)))) 0 ⌝ }
 {
     let mut j = i + 1;
     while j < held {
-        if equal(name_at(names, lengths, i), name_at(names, lengths, j)) {
+        if alike(names, lengths, keys, held, i, j) {
             return false;
         }
         j += 1;
@@ -75,9 +133,10 @@ fn names_distinct<'a>(names: &'a [u8; 512], lengths: &'a [u8; 16], held: usize) 
     requires { ⌜ held ≤ 16 ⌝ }
     ensures { λ r. ⌜ r ≡ distinct (table (nameAt (namesOf 0 (now (names .entry)) (now (lengths .entry)))) 0 held) ⌝ }
 {
+    let keys = keys_of(names, lengths, held);
     let mut i: usize = 0;
     while i < held {
-        if !is_unlike(names, lengths, i, held) {
+        if !is_unlike(names, lengths, &keys, i, held) {
             return false;
         }
         i += 1;

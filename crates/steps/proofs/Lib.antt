@@ -1,6 +1,13 @@
+pub mod Copies
+pub mod FieldPairs
+pub mod Arithmetic
+pub mod Acting
+pub mod Operating
+pub mod Executing
 pub mod Turns
-pub mod Answers
 pub mod Naming
+pub mod Answers
 pub mod Loop
+pub mod Trust
 pub mod Looping
 pub mod Calls

@@ -19,7 +19,7 @@ use Rattle.machine.proofs.Soundness.{SoundHeader, sound-header, header-sound}
 use Rattle.machine.proofs.Step.{step-sound, step-counts}
 use Rattle.machine.proofs.Run.{run-done, run-stop, run-on}
 use Rattle.lent.specs.Given.{Given, given, givenBy}
-use Rattle.steps.specs.Ready.{Sound}
+use Rattle.steps.specs.inner.Ready.{Sound}
 use Rattle.steps.proofs.Naming.{shape-of}
 
 -- an outcome after so many writes and steps
@@ -99,6 +99,10 @@ module _ (ceiling : ℕ) (start m : Machine) (w : ℕ) (g : Going ceiling start 
 
       one : step m .steps ≡ 1
       one = step-counts m .1 ∙ ap (λ (k : ℕ). oneIf (executes k)) zero-is
+
+      pub one-more : n .header .steps ≡ m .header .steps + 1
+      one-more =
+          ap (λ (x : Machine). x .header .steps) next-is ∙ step-counts m .0 ∙ ap (λ (k : ℕ). m .header .steps + oneIf (executes k)) zero-is
 
       pub rises : m .header .steps < n .header .steps
       rises = let d = further in let u = one in let f = g .since in let o = onward in omega arith

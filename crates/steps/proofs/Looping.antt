@@ -1,7 +1,7 @@
 -- The run loop on parts without names: what holds beside any names with which the header is sound, and beside the sixteen of one letter.
 -- Assumes nothing.
 use Prim.Native.Nat.{ℕ, _+_, _-_, _≤_, _<_}
-use mathlib.Core.Path.{_≡_}
+use mathlib.Core.Path.{_≡_, ap, subst, sym}
 use mathlib.Core.Bool.{true, false}
 use mathlib.Core.List.{List}
 use lib.Dec.{eqb}
@@ -12,10 +12,11 @@ use Rattle.machine.specs.declared.Ceiling.the-variants.{Steps}
 use Rattle.machine.specs.State.{Machine}
 use Rattle.machine.specs.Step.{step}
 use Rattle.machine.specs.Run.{run}
-use Rattle.lent.specs.Given.{given, givenBy}
-use Rattle.steps.specs.Ready.{naming, Ready, Sound, Gives}
+use Rattle.lent.specs.Given.{Given, given, givenBy}
+use Rattle.steps.specs.inner.Ready.{naming, Ready, Sound, Gives}
 use Rattle.steps.proofs.Naming.{letters, ones, unnamed-ready, lettered, sound-ready}
-use Rattle.steps.proofs.Loop.{Going, begun, over, onward, stopped, rises, again}
+use Rattle.steps.proofs.Loop.{Going, begun, over, onward, stopped, one-more, rises, again}
+use Rattle.steps.proofs.Trust.{Playing, plays-on, step-few}
 
 -- the loop at a machine, with the writes so far, from where it began
 pub record Looping (ceiling : ℕ) (start m : Machine) (w : ℕ) : Type 0 where
@@ -34,6 +35,10 @@ module _ (ceiling : ℕ) (start m : Machine) (w : ℕ) (g : Looping ceiling star
   module _ (below : m .header .steps < ceiling) (answer : Answer) (sw ss : ℕ) (n : Machine) (stepped : Gives step m answer sw ss n) where
     plain-step : given (told answer) sw ss (naming letters ones n) ≡ givenBy (step (naming letters ones m))
     plain-step = stepped .beside letters ones (g .plain .sound)
+
+    -- three writes at most
+    pub few-writes : sw ≤ 3
+    few-writes = subst (λ (k : ℕ). k ≤ 3) (sym (ap (λ (x : Given). x .writes) plain-step)) (step-few (naming letters ones m))
 
     pub since : start .header .steps ≤ n .header .steps
     since = onward ceiling _ _ w (g .plain) below answer sw ss (naming letters ones n) plain-step
@@ -54,3 +59,8 @@ module _ (ceiling : ℕ) (start m : Machine) (w : ℕ) (g : Looping ceiling star
             plain = p;
             beside = λ b l s. let h = g .beside b l s in again ceiling _ _ w h below answer sw ss (naming b l n) (stepped .beside b l (h .sound)) e small;
           }
+
+      pub plays-further : Playing ceiling m → Playing ceiling n
+      plays-further =
+          plays-on ceiling m (g .ready) below n (ap (λ (x : Given). x .machine) plain-step)
+          (one-more ceiling _ _ w (g .plain) below answer sw ss (naming letters ones n) plain-step e small)

@@ -16,7 +16,8 @@ use Rattle.machine.specs.Names.{names}
 use Rattle.machine.proofs.Names.{Shape}
 use Rattle.machine.proofs.Soundness.{is-taken, takes, tested, header-sound}
 use Rattle.lent.specs.Parts.{namesOf}
-use Rattle.steps.specs.Ready.{naming, Ready, Sound}
+use Rattle.machine.specs.Soundness.{soundEntry}
+use Rattle.steps.specs.inner.Ready.{naming, Ready, Playable, Sound}
 
 -- sixteen names of one letter
 abbrev slotsFrom : ℕ → ℕ → List ℕ
@@ -100,3 +101,12 @@ module _ (m : Machine) where
         counts = s .counts;
         threads = s .threads;
       }
+
+  -- the checks of the next step do not look at the names' bytes
+  pub playable-beside : (bytes lengths : List ℕ) → Playable m → Playable (naming bytes lengths m)
+  unfolding soundEntry
+  playable-beside bytes lengths p = record { only = p .only }
+
+  pub playable-unnamed : (bytes lengths : List ℕ) → Playable (naming bytes lengths m) → Playable m
+  unfolding soundEntry
+  playable-unnamed bytes lengths p = record { only = p .only }

@@ -22,8 +22,8 @@ use Rattle.machine.specs.Step.{counted}
 use Rattle.machine.proofs.Soundness.{is-taken, SoundEntry}
 use Rattle.lent.specs.Parts.{queueOf, headed, popIf, hasRoom, pushIf, startIf}
 use Rattle.queue.proofs.Rings.{inside, room}
-use Rattle.steps.specs.Ready.{Ready}
-use Rattle.steps.specs.Turn.{Front, threaded, turned}
+use Rattle.steps.specs.inner.Ready.{Ready}
+use Rattle.steps.specs.inner.Turn.{Front, threaded, turned}
 
 -- a count lowered and raised again
 lower-raise : (l : List ℕ) (n : ℕ) → n < length l → 0 < getD l n 0 → l ≡ set (set l n (getD l n 0 - 1)) n (getD (set l n (getD l n 0 - 1)) n 0 + 1)

@@ -1,3 +1,1 @@
-pub mod Turn
-pub mod Stepping
-pub mod Ready
+pub mod inner

@@ -5,19 +5,20 @@ ghost use Rattle.answer.specs.Numbers.{told, gives};
 ghost use mathlib.Core.Bool.{cond};
 ghost use lib.Dec.{eqb};
 ghost use Rattle.machine.specs.Step as spec;
-ghost use Rattle.steps.specs.Stepping.{ringOf, stepped};
-ghost use Rattle.steps.specs.Ready.{unnamed, Ready, Gives};
+ghost use Rattle.lent.specs.Parts.{unnamed};
+ghost use Rattle.steps.specs.inner.Stepping.{ringOf, stepped};
+ghost use Rattle.steps.specs.inner.Ready.{Ready, Playable, Gives};
+use crate::execute::execute;
+use crate::opcode::Executed;
 use crate::turn::go_on;
 use crate::turn::split;
 use answer::Answer;
 use entry::unpack;
-use execute::Executed;
-use execute::execute;
 use machine::Ring;
 use machine::Rules;
-use machine::limits::LAST_NUMBER;
 use queue::pop;
-use soundness::sound_front;
+use types::opcode::NOP;
+use word::opcode;
 
 // What a step answers, with its writes and steps, and the queue's head and length and the steps taken afterwards. As numbers: a ring in it makes the run loop slower.
 pub(crate) struct Stepped {
@@ -67,7 +68,7 @@ fn ending(answer: Answer, left: u32) -> Answer
     Answer::Done
 }
 
-// One step.
+// One step that can be refused by 7 or 10 only.
 pub(crate) fn step_once(
     core: &mut [u64],
     queue: &mut [u64],
@@ -78,7 +79,7 @@ pub(crate) fn step_once(
     ring: Ring,
     taken: u32,
 ) -> Stepped
-    requires { ⌜ Ready (unnamed (now core) (now queue) rules ring taken held (now counts) (now threads)) ⌝ }
+    requires { ⌜ Ready (unnamed (now core) (now queue) rules ring taken held (now counts) (now threads)) × Playable (unnamed (now core) (now queue) rules ring taken held (now counts) (now threads)) ⌝ }
     ensures { λ r. ⌜ Gives spec.step (unnamed (now (core .entry)) (now (queue .entry)) rules ring taken held (now (counts .entry)) (now (threads .entry)))
         (r .answer) (r .writes) (r .steps) (unnamed (now (core .exit)) (now (queue .exit)) rules (ringOf (r .head) (r .length)) (r .taken) held (now (counts .exit)) (now (threads .exit))) ⌝ }
 {
@@ -87,22 +88,16 @@ pub(crate) fn step_once(
     }
     let at = ring.head as usize;
     let w = queue[at];
-    if !sound_front(w, rules, held, counts) {
-        return refused(Answer::UnsoundRecord, ring, taken);
-    }
-    if taken == LAST_NUMBER {
-        return refused(Answer::NumbersExhausted, ring, taken);
-    }
     let e = unpack(w);
-    let who = e.name as usize;
-    let number = threads[who];
-    if number == LAST_NUMBER {
-        return refused(Answer::NumbersExhausted, ring, taken);
+    let pc = e.place.0 as usize;
+    let here = core[pc];
+    let op = opcode(here);
+    if op > NOP {
+        return refused(Answer::PrivateMemory, ring, taken);
     }
+    let who = e.name as usize;
     let more = taken + 1;
-    match execute(core, rules, e.place) {
-        Executed::Unsound => refused(Answer::UnsoundRecord, ring, taken),
-        Executed::PrivateMemory => refused(Answer::PrivateMemory, ring, taken),
+    match execute(core, rules, e.place, here) {
         Executed::Goes(next, writes) => {
             let after = go_on(queue, ring, counts, w, next);
             played(Answer::Done, writes, after, more)

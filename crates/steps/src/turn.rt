@@ -3,7 +3,7 @@ ghost use mathlib.Core.Path.{_≡_};
 ghost use mathlib.Core.List.{[]};
 ghost use Rattle.machine.specs.Queue.{unpackedEntry, entry};
 ghost use Rattle.lent.specs.Parts.{queueOf, popIf, pushIf, startIf};
-ghost use Rattle.steps.specs.Turn.{Front, threaded};
+ghost use Rattle.steps.specs.inner.Turn.{Front, threaded};
 use entry::unpack;
 use entry::with_place;
 use machine::Ring;

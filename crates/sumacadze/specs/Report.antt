@@ -1,5 +1,5 @@
 -- An answer in numbers, a ceiling from numbers, and a cell of its fields.
--- Assumes nothing.
+-- Believed. Assumes nothing.
 use Prim.Native.Nat.{ℕ}
 use mathlib.Core.Bool.{Bool, true, false}
 use Rattle.cell.specs.declared.Cell.{Cell}

@@ -1,5 +1,5 @@
 -- The default modifier of an instruction that names none (01, 'Cells'; the draft, A.2.1.2).
--- Assumes nothing.
+-- Believed. Assumes nothing.
 use Prim.Native.Nat.{ℕ, _+_, _*_, _/_, _%_}
 use mathlib.Core.Bool.{Bool, cond, _&&_}
 use mathlib.Core.List.{List, [], _∷_}

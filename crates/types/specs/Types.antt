@@ -1,5 +1,5 @@
 -- The number fields of an instruction, and which of them meet by modifier (01, 'One step').
--- Assumes nothing.
+-- Believed. Assumes nothing.
 use Prim.Native.Nat.{ℕ}
 use mathlib.Core.List.{List, [], _∷_}
 use lib.ListN.{getD}

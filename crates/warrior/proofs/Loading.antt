@@ -1,50 +1,41 @@
 -- What load gives: its refusals in their order, and a warrior that passes the checks.
 -- Assumes nothing.
-use mathlib.Core.Path.{_≡_, refl, sym, ap, ap₂, _∙_}
+use mathlib.Core.Path.{_≡_, refl, sym, ap, ap₂, subst, _∙_}
 use mathlib.Core.Bool.{Bool, true, false, cond, not, _&&_, true≢false}
 use mathlib.Core.List.{List, [], _∷_}
 use Prim.Native.Nat.{ℕ, _≤_, _<_}
 use native.Mathlib.Omega.{arith}
-use lib.Dec.{eqb, leb, ltb}
+use lib.Dec.{eqb, leb}
 use lib.ListN.{length, getD, take, set}
-use borrow.Author.Tests.{leb-true, leb-false, eqb-true, eqb-false, le-leb, lt-leb, lt-ltb, le-ltb, eq-eqb, ne-eqb}
-use Rattle.answer.specs.declared.Answer.{Answer}
-use Rattle.answer.specs.declared.Answer.the-variants.{Done, WarriorTooLong, InvalidCode, InvalidNameOrPlace, NoRoom, NumbersExhausted, UnsoundRecord}
-use Rattle.answer.specs.Numbers.{gives, told}
-use Rattle.laws.specs.Lists.{total, same}
+use borrow.Author.Tests.{leb-true, leb-false, eqb-true, eqb-false, le-leb, lt-ltb, eq-eqb, ne-eqb, not-false}
+use Rattle.answer.specs.declared.Answer.the-variants.{Done}
+use Rattle.answer.specs.Numbers.{Told, gives, told}
+use Rattle.laws.specs.Lists.{total}
 use Rattle.laws.proofs.Tests.{both}
 use Rattle.laws.proofs.Lists.{zero-there}
-use Rattle.laws.proofs.Tables.{length-table}
 use Rattle.laws.proofs.Tally.{count-le}
-use Rattle.laws.proofs.Lowest.{lowest-le}
 use Rattle.offset.specs.Offset.{ahead}
-use Rattle.program.specs.Program.{instructions, lowestFault, cells}
-use Rattle.metadata.specs.Metadata.{validName, called}
+use Rattle.program.specs.Program.{instructions, cells}
+use Rattle.metadata.specs.Metadata.{called}
 use Rattle.program.proofs.Program.{cells-le}
 use Rattle.metadata.proofs.Names.{valid-name}
 use Rattle.machine.specs.declared.Header.{Header}
 use Rattle.machine.specs.declared.Ring.{Ring}
 use Rattle.machine.specs.declared.Roster.{Roster}
 use Rattle.machine.specs.State.{Machine, under, withCore, Verdict, accepted, refusal, first, settle}
-use Rattle.machine.specs.Names.{nameAt, names, slot, isNew, seventeenth, register, registered, numbered}
-use Rattle.machine.specs.Queue.{full, push, started}
-use Rattle.machine.specs.Soundness.{soundHeader}
+use Rattle.machine.specs.Names.{slot, isNew, seventeenth, register, registered, numbered}
+use Rattle.machine.specs.Queue.{push, started}
 use Rattle.machine.specs.Load.{placed, originOf, loadChecks, loaded, load}
+use Rattle.machine.proofs.Checks.{passed, without, others}
 use Rattle.machine.proofs.Soundness.{tested}
+use Rattle.machine.proofs.Load.{loadable}
 use Rattle.lent.specs.Parts.{namedOf, queueOf, startIf, registerIf, machineOf}
 use Rattle.queue.proofs.Rings.{inside, room}
 use Rattle.lent.specs.Given.{Given, given, givenBy}
-use Rattle.warrior.specs.Accepted.{placedIf, Accepted}
-
--- the index of a name
-slot-le : (h : Header) (name : List ℕ) → slot (h .names) name ≤ h .names .held
-slot-le h name =
-    let l : slot (h .names) name ≤ length (names (h .names)) = lowest-le (same name) (names (h .names)) in
-    let n : length (names (h .names)) ≡ h .names .held = length-table (nameAt (h .names)) 0 (h .names .held) in
-    omega arith
-
-new-is : (h : Header) (name : List ℕ) {i : ℕ} → i ≡ slot (h .names) name → isNew (h .names) name ≡ eqb i (h .names .held)
-new-is h name e = ap (λ (k : ℕ). eqb k (h .names .held)) (sym e)
+use Rattle.load_checks.specs.Refusal.{toldOf, loadTold}
+use Rattle.load_checks.proofs.Index.{slot-le, new-is, not-six, eight}
+use Rattle.load_checks.proofs.Checking.{called-is}
+use Rattle.warrior.specs.inner.Accepted.{placedIf, Accepted}
 
 -- a header with other names
 abbrev named : Header → Header → Header
@@ -157,115 +148,61 @@ module _ (m : Machine) (name body : List ℕ) (place i : ℕ) (a : Accepted m na
       ∙ ap₂ (λ (n : ℕ) (c : List ℕ). started-with i n c (ahead (m .header .rules .size) place (originOf origin)) (registered (m .header) name)) en (ec ∙ body-placed)
       ∙ ap (λ (k : ℕ). started-with k (instructions body) (placed (m .core) place (cells (m .header .rules .size) body)) (ahead (m .header .rules .size) place (originOf origin)) (registered (m .header) name)) (a .index)
 
--- the refusals, in their order
-called-is : (name : List ℕ) → 0 < length name → called name ≡ name
-called-is [] h = absurd (let z : ⊥ = omega arith in z)
-called-is (b ∷ bs) h = refl
+-- what the checks answered, told by a number
+module _ (m : Machine) (name body : List ℕ) (place : ℕ) {t : Told} (et : t ≡ loadTold m name body place) {r : ℕ} (er : r ≡ t .number) where
+  number-in : (v : Verdict) → first (loadChecks m name body place) ≡ v → r ≡ toldOf v .number
+  unfolding loadTold
+  number-in v e = er ∙ ap (λ (x : Told). x .number) (et ∙ ap toldOf e)
 
-either : {A : Type 0} (b : Bool) (x : A) → cond b x x ≡ x
-either true x = refl
-either false x = refl
+  -- a refusal
+  pub refused-is : (origin : ℕ) → (r ≡ 0 → ⊥) → given t 0 0 m ≡ givenBy (load m name body origin place)
+  unfolding load loadTold
+  refused-is origin z = go (first (loadChecks m name body place)) refl
+    where
+      go : (v : Verdict) → first (loadChecks m name body place) ≡ v → given t 0 0 m ≡ givenBy (load m name body origin place)
+      go accepted e = absurd (z (number-in accepted e))
+      go (refusal n w) e =
+          ap (λ (x : Told). given x 0 0 m) (et ∙ ap toldOf e)
+          ∙ ap (λ (v : Verdict). givenBy (settle v m (loaded m (called name) body origin place))) {x = refusal n w} (sym e)
 
-module _ (m : Machine) (name body : List ℕ) (origin place : ℕ) where
-  abbrev Gives : Answer → Type 0
-  Gives A = given (told A) 0 0 m ≡ givenBy (load m name body origin place)
+  -- none
+  pub all-passed : r ≡ 0 → first (loadChecks m name body place) ≡ accepted
+  all-passed z = go (first (loadChecks m name body place)) refl
+    where
+      go : (v : Verdict) → first (loadChecks m name body place) ≡ v → first (loadChecks m name body place) ≡ accepted
+      go accepted e = e
+      go (refusal n w) e =
+          absurd (without 0 (loadChecks m name body place) (others 0 (loadChecks m name body place) refl) n w e (sym (number-in (refusal n w) e) ∙ z))
 
-  pub unsound : soundHeader m ≡ false → Gives UnsoundRecord
+-- a warrior that passed the checks, under a name that is not empty
+module _ (m : Machine) (name body : List ℕ) (place : ℕ) (e : first (loadChecks m name body place) ≡ accepted) (n : 0 < length name) where
+  pub accepted-so : (i : ℕ) → i ≡ cond (leb (m .header .names .held) 16) (slot (m .header .names) name) (m .header .names .held) → Accepted m name body place i
+  accepted-so i found =
+      let p = passed (loadChecks m name body place) e in
+      let l = loadable m name body place e in
+      let s = not-false _ (p .0) in
+      let few : m .header .names .held ≤ 16 = tested m s .few in
+      let index : i ≡ slot (m .header .names) name = found ∙ simp (le-leb (m .header .names .held) 16 few) in
+      let free : seventeenth (m .header .names) name ≡ false = subst (λ (k : List ℕ). seventeenth (m .header .names) k ≡ false) (called-is name n) (l .free) in
+      record {
+        sound = s;
+        fits = l .short;
+        valid = l .valid;
+        below = l .inside;
+        room = p .1 .1 .1 .1 .1 .0;
+        index = index;
+        free = not-six (m .header) name index few free;
+        number =
+            sym (eight (m .header) name index)
+            ∙ subst (λ (k : List ℕ). (not (isNew (m .header .names) k) && eqb (getD (m .header .threads) (slot (m .header .names) k) 0) 4294967295) ≡ false) (called-is name n) (p .1 .1 .1 .1 .1 .1 .0);
+      }
+
+  pub loads : (origin : ℕ) {X : Given} → X ≡ givenBy (loaded m name body origin place) → X ≡ givenBy (load m name body origin place)
   unfolding load
-  unsound s = simp s
-
-  module _ (s : soundHeader m ≡ true) (count : ℕ) (ec : count ≡ instructions body) where
-    pub too-long : m .header .rules .size < count → Gives WarriorTooLong
-    unfolding load
-    too-long h = simp (s, lt-ltb (m .header .rules .size) (instructions body) (omega arith))
-
-    module _ (l : count ≤ m .header .rules .size) (fault : ℕ) (ef : fault ≡ lowestFault body) where
-      fits : ltb (m .header .rules .size) (instructions body) ≡ false
-      fits = le-ltb (m .header .rules .size) (instructions body) (omega arith)
-
-      pub faulty : fault < count → Gives (InvalidCode fault)
-      unfolding load
-      faulty h =
-          ap (λ (k : ℕ). given (told (InvalidCode k)) 0 0 m) ef
-          ∙ simp (s, fits, lt-ltb (lowestFault body) (instructions body) (omega arith))
-
-      module _ (f : count ≤ fault) where
-        lawful-body : ltb (lowestFault body) (instructions body) ≡ false
-        lawful-body = le-ltb (lowestFault body) (instructions body) (omega arith)
-
-        pub bad-name : validName name ≡ false → Gives InvalidNameOrPlace
-        unfolding load
-        bad-name h = simp (s, fits, lawful-body, h)
-
-        module _ (v : validName name ≡ true) where
-          pub bad-place : m .header .rules .size ≤ place → Gives InvalidNameOrPlace
-          unfolding load
-          bad-place h = simp (s, fits, lawful-body, v, le-leb (m .header .rules .size) place h)
-
-          module _ (p : place < m .header .rules .size) where
-            pub no-slot : full m (slot (m .header .names) (called name)) ≡ true → Gives NoRoom
-            unfolding load
-            no-slot h = simp (s, fits, lawful-body, v, lt-leb (m .header .rules .size) place p, h, either)
-
-            module _ (r : full m (slot (m .header .names) (called name)) ≡ false) (n : 0 < length name) where
-              reached : first (loadChecks m name body place)
-                  ≡ cond (seventeenth (m .header .names) name) (refusal 6 0)
-                  (cond (not (isNew (m .header .names) name) && eqb (getD (m .header .threads) (slot (m .header .names) name) 0) 4294967295) (refusal 8 0) accepted)
-              reached =
-                  simp (s, fits, lawful-body, v, lt-leb (m .header .rules .size) place p, r)
-                  (ap (λ (k : List ℕ). cond (seventeenth (m .header .names) k) (refusal 6 0)
-                  (cond (not (isNew (m .header .names) k) && eqb (getD (m .header .threads) (slot (m .header .names) k) 0) 4294967295) (refusal 8 0) accepted)) (called-is name n))
-
-              few : m .header .names .held ≤ 16
-              few = tested m s .few
-
-              module _ (i : ℕ) (found : i ≡ cond (leb (m .header .names .held) 16) (slot (m .header .names) name) (m .header .names .held)) where
-                pub index-is : i ≡ slot (m .header .names) name
-                index-is = found ∙ simp (le-leb (m .header .names .held) 16 few)
-
-                pub no-index : 16 ≤ i → Gives NoRoom
-                unfolding load
-                no-index h =
-                    let e : i ≡ slot (m .header .names) name = index-is in
-                    let l : slot (m .header .names) name ≤ m .header .names .held = slot-le (m .header) name in
-                    let f : m .header .names .held ≤ 16 = few in
-                    ap (λ (v : Verdict). givenBy (settle v m (loaded m (called name) body origin place))) {x = refusal 6 0}
-                    (sym (reached ∙ simp (new-is (m .header) name index-is, eq-eqb i (m .header .names .held) (omega arith), eq-eqb (m .header .names .held) 16 (omega arith))))
-
-                module _ (free : i < 16) where
-                  six : seventeenth (m .header .names) name ≡ false
-                  six = ap (λ (b : Bool). b && eqb (m .header .names .held) 16) (new-is (m .header) name index-is) ∙ go (eqb i (m .header .names .held)) refl
-                    where
-                      go : (b : Bool) → eqb i (m .header .names .held) ≡ b → (b && eqb (m .header .names .held) 16) ≡ false
-                      go true e = let k : i ≡ m .header .names .held = eqb-true i (m .header .names .held) e in ne-eqb (m .header .names .held) 16 (omega arith)
-                      go false e = refl
-
-                  eight : (not (isNew (m .header .names) name) && eqb (getD (m .header .threads) (slot (m .header .names) name) 0) 4294967295)
-                      ≡ (ltb i (m .header .names .held) && eqb (getD (m .header .threads) i 0) 4294967295)
-                  eight =
-                      ap₂ (λ (b : Bool) (k : ℕ). not b && eqb (getD (m .header .threads) k 0) 4294967295) (new-is (m .header) name index-is) (sym index-is)
-                      ∙ ap (λ (b : Bool). b && eqb (getD (m .header .threads) i 0) 4294967295) (go (eqb i (m .header .names .held)) refl)
-                    where
-                      go : (b : Bool) → eqb i (m .header .names .held) ≡ b → not b ≡ ltb i (m .header .names .held)
-                      go true e = let k : i ≡ m .header .names .held = eqb-true i (m .header .names .held) e in sym (le-ltb i (m .header .names .held) (omega arith))
-                      go false e =
-                          let k : i ≡ m .header .names .held → ⊥ = eqb-false i (m .header .names .held) e in
-                          let q : i ≡ slot (m .header .names) name = index-is in
-                          let l : slot (m .header .names) name ≤ m .header .names .held = slot-le (m .header) name in
-                          sym (lt-ltb i (m .header .names .held) (omega arith))
-
-                  pub no-number : (ltb i (m .header .names .held) && eqb (getD (m .header .threads) i 0) 4294967295) ≡ true → Gives NumbersExhausted
-                  unfolding load
-                  no-number e =
-                      ap (λ (v : Verdict). givenBy (settle v m (loaded m (called name) body origin place))) {x = refusal 8 0} (sym (reached ∙ simp (six, eight ∙ e)))
-
-                  pub passed : (ltb i (m .header .names .held) && eqb (getD (m .header .threads) i 0) 4294967295) ≡ false → {X : Given}
-                      → X ≡ givenBy (loaded m name body origin place) → X ≡ givenBy (load m name body origin place)
-                  unfolding load
-                  passed e x =
-                      x
-                      ∙ ap (λ (k : List ℕ). givenBy (loaded m k body origin place)) (sym (called-is name n))
-                      ∙ ap (λ (v : Verdict). givenBy (settle v m (loaded m (called name) body origin place))) {x = accepted} (sym (reached ∙ simp (six, eight ∙ e)))
+  loads origin x =
+      x
+      ∙ ap (λ (k : List ℕ). givenBy (loaded m k body origin place)) (sym (called-is name n))
+      ∙ ap (λ (v : Verdict). givenBy (settle v m (loaded m (called name) body origin place))) {x = accepted} (sym e)
 
 -- an empty name is Warrior0
 pub unnamed-is : (m : Machine) (name body : List ℕ) (origin place : ℕ) → length name ≡ 0

@@ -1,33 +1,30 @@
 // A warrior loaded into the core (01, 'Load').
 ghost use mathlib.Core.Path.{_≡_};
-ghost use mathlib.Core.Bool.{cond, _&&_};
+ghost use mathlib.Core.Bool.{cond};
 ghost use Prim.Native.Nat.{_<_};
-ghost use lib.Dec.{eqb, ltb};
-ghost use lib.ListN.{length, getD};
+ghost use lib.Dec.{eqb};
+ghost use lib.ListN.{length};
 ghost use Rattle.answer.specs.Numbers.{told};
 ghost use Rattle.machine.specs.Load as spec;
 ghost use Rattle.lent.specs.Parts.{namesOf, namedOf, machineOf, registerIf};
 ghost use Rattle.lent.specs.Given.{given, givenBy};
-ghost use Rattle.warrior.specs.Accepted.{Accepted};
+ghost use Rattle.warrior.specs.inner.Accepted.{Accepted};
 use crate::placing::place_body;
 use answer::Answer;
+use answer::number;
+use load_checks::refusal;
 use machine::Header;
 use machine::Outcome;
 use machine::Roster;
-use machine::limits::LAST_NUMBER;
 use machine::limits::NO_ORIGIN;
-use metadata::valid_name;
 use names::find;
 use names::register;
 use offset::Absolute;
 use offset::Relative;
 use offset::add;
 use program::len;
-use program::lowest_fault;
-use queue::full;
 use queue::start;
 use sim::refuse;
-use soundness::sound_header;
 
 mod placing;
 
@@ -59,16 +56,6 @@ fn registered(
         return register(names, lengths, counts, threads, held, name);
     }
     held
-}
-
-// Whether a held name has no thread number left.
-fn exhausted(threads: &[u32; 16], i: u32, held: u32) -> bool
-    requires { ⌜ i < 16 ⌝ }
-    ensures { λ r. ⌜ r ≡ (ltb i held && eqb (getD (now (threads .entry)) i 0) 4294967295) ⌝ }
-{
-    let slot = i as usize;
-    let thread = threads[slot];
-    (i < held) & (thread == LAST_NUMBER)
 }
 
 // Loads a warrior that passed the checks, under the name with the index i.
@@ -138,42 +125,11 @@ fn load_named(
     ensures { λ r. ⌜ given (told (r .answer)) (r .writes) (r .steps) (machineOf (now (core .exit)) (now (queue .exit)) (r .header))
         ≡ givenBy (spec.load (machineOf (now (core .entry)) (now (queue .entry)) h) (now (name .entry)) (now (body .entry)) origin place) ⌝ }
 {
-    if !sound_header(
-        core,
-        queue,
-        h.rules,
-        h.ring,
-        h.names.held,
-        &h.names.bytes,
-        &h.names.lengths,
-        &h.counts,
-    ) {
-        return refuse(Answer::UnsoundRecord, h);
-    }
-    let count = len(body);
-    if (h.rules.size as usize) < count {
-        return refuse(Answer::WarriorTooLong, h);
-    }
-    let fault = lowest_fault(body);
-    if fault < count {
-        return refuse(Answer::InvalidCode(fault), h);
-    }
-    if !valid_name(name) {
-        return refuse(Answer::InvalidNameOrPlace, h);
-    }
-    if h.rules.size <= place {
-        return refuse(Answer::InvalidNameOrPlace, h);
-    }
-    if full(queue, h.ring) {
-        return refuse(Answer::NoRoom, h);
+    let answer = refusal(core, queue, h, name, body, place);
+    if number(answer) != 0 {
+        return refuse(answer, h);
     }
     let i = find(&h.names.bytes, &h.names.lengths, h.names.held, name);
-    if 16 <= i {
-        return refuse(Answer::NoRoom, h);
-    }
-    if exhausted(&h.threads, i, h.names.held) {
-        return refuse(Answer::NumbersExhausted, h);
-    }
     accept(core, queue, h, i, name, body, origin, place)
 }
 

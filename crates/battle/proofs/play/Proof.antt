@@ -3,8 +3,6 @@
 use borrow.Author.Needs.{needs}
 use Rattle.battle.proofs.play.Statement.{statement}
 use Rattle.battle.proofs.play.Tie as tie
-use mathlib.Core.Path.{sym}
-use native.Mathlib.Nat.{le-of-eq}
 use Rattle.battle.proofs.Printing.{prints-run, prints-refusal}
 
 core-memory-requires : tie.Need-core-memory-requires
@@ -26,13 +24,13 @@ play-file-requires : tie.Need-play-file-requires
 play-file-requires c κs = search needs
 
 put-run-requires : tie.Need-put-run-requires
-put-run-requires c κs = (le-of-eq (sym (c .before .before .text .given .0 .1)), c .before .before .before .before .before .play-file .ensures .1 (c .before .if1 .taken))
+put-run-requires c κs = search needs
 
 returns : tie.Need-returns
 returns c =
     let p = c .before .before .before .before .before .before .play-file in
     prints-run (c .before .before .before .before .before .before .before .before .before .before .before .before .before .args .file .now) (p .result .answer) (p .result .steps) (p .result .writes) (p .result .header) (p .result .ran) (p .ensures .0)
-    (c .before .before .if1 .taken) (c .put-run .ensures)
+    (p .ensures .1 (c .before .before .before .if1 .taken)) (c .before .before .before .if1 .taken) (c .put-run .ensures)
 
 put-refusal-requires : tie.Need-put-refusal-requires
 put-refusal-requires c κs = search needs
@@ -41,7 +39,7 @@ returns-2 : tie.Need-returns-2
 returns-2 c =
     let p = c .before .before .before .before .before .play-file in
     prints-refusal (c .before .before .before .before .before .before .before .before .before .before .before .before .args .file .now) (p .result .answer) (p .result .steps) (p .result .writes) (p .result .header) (p .result .ran) (p .ensures .0)
-    (c .before .if1 .left) (c .put-refusal .ensures)
+    (c .before .before .if1 .left) (c .put-refusal .ensures)
 
 pub play-spec : {M : Type 1} → statement M
 play-spec =

@@ -6,11 +6,10 @@ use Rattle.laws.proofs.Tests.{refuted, upheld}
 use Rattle.machine.specs.declared.Ceiling.the-variants.{Steps}
 use Rattle.machine.specs.State.{Machine}
 use Rattle.soundness.proofs.Headers.{by-parts}
-use Rattle.lent.specs.Parts.{namesOf}
-use Rattle.steps.specs.Stepping.{parts}
+use Rattle.lent.specs.Parts.{namesOf, parts, unnamed}
 use Rattle.steps.proofs.Calls.{unsound-run, is-sound}
 use Rattle.steps.proofs.Naming.{sound-ready, unnamed-ready}
-use Rattle.steps.specs.Ready.{Sound, unnamed}
+use Rattle.steps.specs.inner.Ready.{Sound}
 use Rattle.steps.proofs.run_parts.Statement.{statement}
 use Rattle.steps.proofs.run_parts.Tie as tie
 

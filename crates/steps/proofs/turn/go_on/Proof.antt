@@ -3,7 +3,7 @@
 use borrow.Author.Needs.{needs}
 use Rattle.steps.proofs.turn.go_on.Statement.{statement}
 use Rattle.steps.proofs.turn.go_on.Tie as tie
-use Rattle.execute.proofs.Cells.{reduced}
+use Rattle.word.proofs.Cells.{reduced}
 use Rattle.steps.proofs.Turns.{gone-on}
 
 cast-slots : tie.Need-cast-slots

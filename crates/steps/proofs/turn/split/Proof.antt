@@ -8,7 +8,7 @@ use Prim.Native.Nat.{ℕ}
 use Rattle.machine.specs.declared.Entry.{Entry}
 use Rattle.machine.specs.State.{Machine}
 use Rattle.lent.specs.Parts.{startIf}
-use Rattle.steps.specs.Turn.{threaded}
+use Rattle.steps.specs.inner.Turn.{threaded}
 
 unpack-requires : tie.Need-unpack-requires
 unpack-requires c κs = search needs

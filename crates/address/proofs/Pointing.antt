@@ -1,0 +1,312 @@
+-- Laws of one operand: what the machine's operand is, by the mode's range, from what the code finds; what it keeps.
+-- Assumes nothing.
+use mathlib.Core.Path.{_≡_, refl, sym, ap, _∙_}
+use mathlib.Core.Bool.{Bool, true, false, _&&_}
+use mathlib.Core.List.{List, [], _∷_}
+use Prim.Native.Nat.{ℕ, zero, suc, _+_, _%_, _≤_, _<_, zero-le}
+use native.Mathlib.Nat.{mod-zero, add-zero}
+use native.Mathlib.Omega.{arith}
+use lib.Dec.{eqb, ltb}
+use lib.ListN.{length, getD, set, length-set, List·getD-eq-default}
+use lib.Seq.{getD-set-same, getD-set-other}
+use borrow.Author.Tests.{eqb-true, eqb-false, ltb-true, ltb-false}
+use Rattle.laws.proofs.Cases.{span}
+use Rattle.laws.proofs.Tests.{both, and-true}
+use Rattle.offset.specs.Offset.{ahead}
+use Rattle.types.specs.Types.{Field, A}
+use Rattle.cell.specs.Cells.{packed, unpacked, soundWord, number, withNumber}
+use Rattle.cell.proofs.Words.{unpack-pack, word-range}
+use Rattle.machine.specs.declared.Rules.{Rules}
+use Rattle.machine.specs.Pointers as machine
+use Rattle.machine.specs.Pointers.{Reach, here, there, through, Shift, keeps, lowers, raises, reaches, shifts, fieldOf, less, more, used, pointerOf, changed, before, after, shifted, siteAt, operand}
+use Rattle.word.specs.Words.{fieldBy}
+use Rattle.address.specs.inner.Operands.{soundSeen, Ready}
+use Rattle.word.proofs.Cells.{ahead-below, whole, with-sound}
+
+-- the modes by range
+pub goes-through : (mode : ℕ) → 2 ≤ mode → mode < 8 → getD reaches mode here ≡ through (fieldBy (mode % 2))
+goes-through mode l h = span mode 2 6 l h (λ e. rw e, (λ e. rw e, (λ e. rw e, (λ e. rw e, (λ e. rw e, (λ e. rw e, tt))))))
+
+pub shift-keeps : (mode : ℕ) → mode < 4 → getD shifts mode keeps ≡ keeps
+shift-keeps mode h = span mode 0 4 zero-le h (λ e. rw e, (λ e. rw e, (λ e. rw e, (λ e. rw e, tt))))
+
+pub shift-lowers : (mode : ℕ) → 4 ≤ mode → mode < 6 → getD shifts mode keeps ≡ lowers
+shift-lowers mode l h = span mode 4 2 l h (λ e. rw e, (λ e. rw e, tt))
+
+pub shift-raises : (mode : ℕ) → 6 ≤ mode → mode < 8 → getD shifts mode keeps ≡ raises
+shift-raises mode l h = span mode 6 2 l h (λ e. rw e, (λ e. rw e, tt))
+
+-- the number that the pointer is made of
+pub aimed-keeps : (size mode k : ℕ) → mode < 4 → k ≡ used (getD shifts mode keeps) size k
+aimed-keeps size mode k h = rw (shift-keeps mode h)
+
+pub aimed-lowers : (size : ℕ) {r : ℕ} (mode k : ℕ) → 4 ≤ mode → mode < 6 → r ≡ less size k → r ≡ used (getD shifts mode keeps) size k
+aimed-lowers size mode k g h e = rw (shift-lowers mode g h) e
+
+pub aimed-nowhere : (size mode k : ℕ) → 4 ≤ mode → mode < 6 → size ≡ 0 → k ≡ used (getD shifts mode keeps) size k
+aimed-nowhere size mode k g h z = aimed-lowers size mode k g h (rw z (sym (mod-zero (k + 0) ∙ add-zero k)))
+
+pub aimed-raises : (size mode k : ℕ) → 6 ≤ mode → k ≡ used (getD shifts mode keeps) size k
+aimed-raises size mode k g = by (ltb mode 8) refl
+  where
+    by : (t : Bool) → ltb mode 8 ≡ t → k ≡ used (getD shifts mode keeps) size k
+    by true e = rw (shift-raises mode g (ltb-true mode 8 e))
+    by false e = ap (λ (t : Shift). used t size k) (sym (List·getD-eq-default shifts keeps (ltb-false mode 8 e)))
+
+-- what holds of the value stored and of what was there holds of what is there now, at any two places
+pub on-set : {A : Type 0} (P : A → Type 0) (l : List A) (i j : ℕ) (v d : A) → P v → P (getD l j d) → P (getD (set l i v) j d)
+on-set P [] i j v d p q = q
+on-set P (x ∷ xs) zero zero v d p q = p
+on-set P (x ∷ xs) zero (suc j) v d p q = q
+on-set P (x ∷ xs) (suc i) zero v d p q = q
+on-set P (x ∷ xs) (suc i) (suc j) v d p q = on-set P xs i j v d p q
+
+-- a cell is sound after a sound one was stored over a sound one, just where it was
+stored-sound : (size : ℕ) (core : List ℕ) (i j v : ℕ) → i < length core → (soundWord size (getD core i 0) ≡ true → soundWord size v ≡ true)
+    → (soundWord size (getD core i 0) && soundWord size (getD (set core i v) j 0)) ≡ (soundWord size (getD core i 0) && soundWord size (getD core j 0))
+stored-sound size core i j v l h = by (soundWord size (getD core i 0)) refl
+  where
+    at : (t : Bool) → eqb j i ≡ t → soundWord size (getD core i 0) ≡ true → soundWord size (getD (set core i v) j 0) ≡ soundWord size (getD core j 0)
+    at true e s =
+        ap (λ (k : ℕ). soundWord size (getD (set core i v) k 0)) (eqb-true j i e) ∙ ap (soundWord size) (getD-set-same core i v 0 l) ∙ h s ∙ sym s
+        ∙ ap (λ (k : ℕ). soundWord size (getD core k 0)) (sym (eqb-true j i e))
+    at false e s = ap (soundWord size) (getD-set-other core i j v 0 (eqb-false j i e))
+
+    by : (t : Bool) → soundWord size (getD core i 0) ≡ t → (t && soundWord size (getD (set core i v) j 0)) ≡ (t && soundWord size (getD core j 0))
+    by true s = at (eqb j i) refl s
+    by false s = refl
+
+-- the decrement changes no verdict on the cells read
+look : (size : ℕ) (core : List ℕ) (t : Shift) (i j : ℕ) (f : Field) → size ≤ 46341 → length core ≡ size → i < size
+    → (soundWord size (getD core i 0) && soundWord size (getD (before t size core i f (number f (unpacked (getD core i 0)))) j 0))
+    ≡ (soundWord size (getD core i 0) && soundWord size (getD core j 0))
+look size core keeps i j f l e h = refl
+look size core lowers i j f l e h =
+    stored-sound size core i j _ (rw e h) (λ s. with-sound f size (getD core i 0) _ l s (ahead-below _ _ h))
+look size core raises i j f l e h = refl
+
+module _ (rules : Rules) (core : List ℕ) (pc mode n : ℕ) where
+  abbrev size : ℕ
+  size = rules .size
+
+  abbrev its : machine.Operand
+  its = operand (siteAt rules pc) core mode n
+
+  -- an operand that read sound cells: its pointer and register, and the core after it
+  pub record Points (pointer register : ℕ) (l : List ℕ) : Type 0 where
+    pub seen : soundSeen size its ≡ true
+    pub reads : its .read ≡ pointer
+    pub copies : register ≡ packed (its .register)
+    pub leaves : l ≡ its .core
+
+  pub sound-is : Ready rules core pc n → (pointer : ℕ) → its .read ≡ pointer
+      → soundSeen size its ≡ (soundWord size (getD core (ahead size pc n) 0) && soundWord size (getD core pointer 0))
+  unfolding operand
+  sound-is k p e =
+      ap (λ (t : Bool). soundWord size (getD core (ahead size pc n) 0) && t) (and-true _)
+      ∙ look size core (getD shifts mode keeps) (ahead size pc n) _ (fieldOf (getD reaches mode here)) (k .valid) (k .cells) (ahead-below pc n (k .place))
+      ∙ ap (λ (j : ℕ). soundWord size (getD core (ahead size pc n) 0) && soundWord size (getD core j 0)) e
+
+  abbrev field : Field
+  field = fieldOf (getD reaches mode here)
+
+  abbrev found : ℕ
+  found = number field (unpacked (getD core (ahead size pc n) 0))
+
+  -- the register and the core by what the mode does to the number found
+  register-keeps : getD shifts mode keeps ≡ keeps → its .register ≡ unpacked (getD core (its .read) 0)
+  unfolding operand
+  register-keeps t = rw t
+
+  register-lowers : getD shifts mode keeps ≡ lowers
+      → its .register ≡ unpacked (getD (changed core (ahead size pc n) field (less size found)) (its .read) 0)
+  unfolding operand
+  register-lowers t = rw t
+
+  register-raises : getD shifts mode keeps ≡ raises → its .register ≡ unpacked (getD core (its .read) 0)
+  unfolding operand
+  register-raises t = rw t
+
+  core-keeps : getD shifts mode keeps ≡ keeps → core ≡ its .core
+  unfolding operand
+  core-keeps t = rw t
+
+  core-lowers : getD shifts mode keeps ≡ lowers → changed core (ahead size pc n) field (less size found) ≡ its .core
+  unfolding operand
+  core-lowers t = rw t
+
+  core-raises : getD shifts mode keeps ≡ raises → changed core (ahead size pc n) field (more size found) ≡ its .core
+  unfolding operand
+  core-raises t = rw t
+
+  pub writes-are : length (shifted (getD shifts mode keeps) 0) ≡ length (its .written)
+  unfolding operand
+  writes-are = by (getD shifts mode keeps)
+    where
+      by : (t : Shift) → length (shifted t 0) ≡ length (shifted t (ahead size pc n))
+      by keeps = refl
+      by lowers = refl
+      by raises = refl
+
+  at-pc : mode ≡ 0 → its .read ≡ pc
+  unfolding operand
+  at-pc e = rw e
+
+  at-location : mode ≡ 1 → its .read ≡ ahead size pc n
+  unfolding operand
+  at-location e = rw e
+
+  module _ (k : Ready rules core pc n) (location : ℕ) (is : location ≡ ahead size pc n) where
+    pub bad-location : soundWord size (getD core location 0) ≡ false → soundSeen size its ≡ false
+    bad-location h =
+        let g : soundWord size (getD core (ahead size pc n) 0) ≡ false = rw is at h in
+        sound-is k _ refl ∙ simp g
+
+    module _ (h : soundWord size (getD core location 0) ≡ true) (pointer : ℕ) where
+      -- the pointer's cell decides, once the location's is sound
+      verdict : its .read ≡ pointer → soundSeen size its ≡ soundWord size (getD core pointer 0)
+      verdict e =
+          let g : soundWord size (getD core (ahead size pc n) 0) ≡ true = rw is at h in
+          sound-is k pointer e ∙ simp g
+
+      assembled : {register : ℕ} {l : List ℕ} → its .read ≡ pointer → soundWord size (getD core pointer 0) ≡ true
+          → register ≡ packed (its .register) → l ≡ its .core → Points pointer register l
+      assembled e s er el = record { seen = verdict e ∙ s; reads = e; copies = er; leaves = el }
+
+      -- a register that is the cell at the pointer
+      plainly : its .read ≡ pointer → soundWord size (getD core pointer 0) ≡ true
+          → its .register ≡ unpacked (getD core (its .read) 0)
+          → getD core pointer 0 ≡ packed (its .register)
+      plainly e s er = sym (ap packed (er ∙ ap (λ (j : ℕ). unpacked (getD core j 0)) e) ∙ whole size (getD core pointer 0) s)
+
+    pub hash : soundWord size (getD core location 0) ≡ true → soundWord size (getD core pc 0) ≡ true → mode ≡ 0
+        → Points pc (getD core pc 0) core
+    hash h s e = assembled h pc (at-pc e) s (plainly h pc (at-pc e) s (register-keeps shift)) (core-keeps shift)
+      where
+        shift : getD shifts mode keeps ≡ keeps
+        shift = rw e
+
+    pub dollar : soundWord size (getD core location 0) ≡ true → mode ≡ 1
+        → Points location (getD core location 0) core
+    dollar h e = assembled h location there-is h (plainly h location there-is h (register-keeps shift)) (core-keeps shift)
+      where
+        shift : getD shifts mode keeps ≡ keeps
+        shift = rw e
+
+        there-is : its .read ≡ location
+        there-is = at-location e ∙ sym is
+
+    module _ (two : 2 ≤ mode) (eight : mode < 8) (h : soundWord size (getD core location 0) ≡ true) (seen to pointer : ℕ)
+        (es : seen ≡ number (fieldBy (mode % 2)) (unpacked (getD core location 0))) (et : to ≡ used (getD shifts mode keeps) size seen)
+        (ep : pointer ≡ ahead size location to) where
+      seen-is : seen ≡ found
+      seen-is = es ∙ rw (is, goes-through mode two eight)
+
+      pub points : its .read ≡ pointer
+      unfolding operand
+      points = rw (ep, et, seen-is, is, goes-through mode two eight)
+
+      pub bad-pointer : soundWord size (getD core pointer 0) ≡ false → soundSeen size its ≡ false
+      bad-pointer s = verdict h pointer points ∙ s
+
+      pub plain : soundWord size (getD core pointer 0) ≡ true → mode < 4
+          → Points pointer (getD core pointer 0) core
+      plain s l =
+          let t = shift-keeps mode l in
+          assembled h pointer points s (plainly h pointer points s (register-keeps t)) (core-keeps t)
+
+      module _ (s : soundWord size (getD core pointer 0) ≡ true) (l : List ℕ) (word : ℕ) (el : l ≡ set core location word) where
+        pub lower : 4 ≤ mode → mode < 6 → word ≡ packed (withNumber (fieldBy (mode % 2)) to (unpacked (getD core location 0)))
+            → (register : ℕ) → register ≡ getD (set core location word) pointer 0
+            → Points pointer register l
+        lower p q ew register er =
+            assembled h pointer points s
+            (er ∙ ap (λ (x : List ℕ). getD x pointer 0) (sym el) ∙ sym (ap packed (register-lowers t ∙ ap (λ (j : ℕ). unpacked (getD (changed core (ahead size pc n) field (less size found)) j 0)) points ∙ ap (λ (x : List ℕ). unpacked (getD x pointer 0)) (sym lowered))
+            ∙ whole size (getD l pointer 0) sound-there))
+            (lowered ∙ core-lowers t)
+          where
+            t : getD shifts mode keeps ≡ lowers
+            t = shift-lowers mode p q
+
+            to-is : to ≡ less size found
+            to-is = et ∙ rw (t, seen-is)
+
+            lowered : l ≡ changed core (ahead size pc n) field (less size found)
+            lowered = rw (el, ew, to-is, is, goes-through mode two eight)
+
+            sound-there : soundWord size (getD l pointer 0) ≡ true
+            sound-there =
+                rw (el, ew)
+                (on-set (λ (w : ℕ). soundWord size w ≡ true) core location pointer _ 0
+                (with-sound (fieldBy (mode % 2)) size (getD core location 0) to (k .valid) h (rw to-is (ahead-below _ _ (k .place)))) s)
+
+        pub raise : 6 ≤ mode → (up : ℕ) → up ≡ more size seen → word ≡ packed (withNumber (fieldBy (mode % 2)) up (unpacked (getD core location 0)))
+            → (register : ℕ) → register ≡ getD core pointer 0
+            → Points pointer register l
+        raise p up eu ew register er =
+            assembled h pointer points s (er ∙ plainly h pointer points s (register-raises t))
+            (raised ∙ core-raises t)
+          where
+            t : getD shifts mode keeps ≡ raises
+            t = shift-raises mode p eight
+
+            raised : l ≡ changed core (ahead size pc n) field (more size found)
+            raised = rw (el, ew, eu, seen-is, is, goes-through mode two eight)
+
+  -- what holds of the core, and of it with another number at the location, holds of the core after the operand
+  pub kept : (P : List ℕ → Type 0) → pc < size → P core → ((k : ℕ) → k < size → P (changed core (ahead size pc n) field k)) → P (its .core)
+  unfolding operand
+  kept P h p q = by (getD shifts mode keeps)
+    where
+      by : (t : Shift) → P (after t size (before t size core (ahead size pc n) field found) (ahead size pc n) field found)
+      by keeps = p
+      by lowers = q (less size found) (ahead-below _ _ h)
+      by raises = q (more size found) (ahead-below _ _ h)
+
+  pub length-after : pc < size → length (its .core) ≡ length core
+  length-after h = kept (λ (l : List ℕ). length l ≡ length core) h refl (λ k u. length-set core _ _)
+
+  -- the cell at the location is sound
+  pub read-sound : soundSeen size its ≡ true → soundWord size (getD core (ahead size pc n) 0) ≡ true
+  unfolding operand
+  read-sound e = both _ _ e .0
+
+  -- a sound cell stays sound, wherever it is
+  pub sound-after : size ≤ 46341 → pc < size → soundSeen size its ≡ true
+      → (i : ℕ) → soundWord size (getD core i 0) ≡ true → soundWord size (getD (its .core) i 0) ≡ true
+  sound-after v h e i s =
+      kept (λ (l : List ℕ). soundWord size (getD l i 0) ≡ true) h s
+      (λ k u. on-set (λ (w : ℕ). soundWord size w ≡ true) core (ahead size pc n) i _ 0 (with-sound field size (getD core (ahead size pc n) 0) k v (read-sound e) u) s)
+
+  -- the pointer is a place, its cell sound, also after the operand
+  pub pointer-below : pc < size → its .read < size
+  unfolding operand
+  pointer-below h = by (getD reaches mode here) _
+    where
+      by : (r : Reach) (k : ℕ) → pointerOf r size pc (ahead size pc n) k < size
+      by here k = h
+      by there k = ahead-below _ _ h
+      by (through f) k = ahead-below _ _ h
+
+  pub pointer-sound : Ready rules core pc n → soundSeen size its ≡ true → soundWord size (getD core (its .read) 0) ≡ true
+  pointer-sound k e = both (soundWord size (getD core (ahead size pc n) 0)) (soundWord size (getD core (its .read) 0)) (sym (sound-is k _ refl) ∙ e) .1
+
+  -- the register is a sound cell
+  pub register-sound : soundSeen size its ≡ true → soundWord size (packed (its .register)) ≡ true
+  unfolding operand
+  register-sound e =
+      let s = sym (and-true _) ∙ both (soundWord size (getD core (ahead size pc n) 0)) _ e .1 in
+      ap (soundWord size) (whole size _ s) ∙ s
+
+  pub register-whole : unpacked (packed (its .register)) ≡ its .register
+  unfolding operand
+  register-whole = unpack-pack _ (word-range _)
+
+  pub writes-few : length (its .written) ≤ 1
+  unfolding operand
+  writes-few = by (getD shifts mode keeps)
+    where
+      by : (t : Shift) → length (shifted t (ahead size pc n)) ≤ 1
+      by keeps = omega arith
+      by lowers = omega arith
+      by raises = omega arith

@@ -1,4 +1,0 @@
-pub mod Instruction
-pub mod Words
-pub mod Operands
-pub mod Acts

@@ -1,0 +1,3 @@
+pub mod Looking
+pub mod Reading
+pub mod Refusing

@@ -1,0 +1,27 @@
+-- The refusal of the next step, for any parts of a record (01, 'One step').
+-- Believed. Assumes nothing.
+use mathlib.Core.Bool.{Bool, not, _&&_}
+use mathlib.Core.List.{List, _∷_}
+use lib.Dec.{ltb}
+use lib.ListN.{length}
+use Rattle.answer.specs.Numbers.{Told, gives}
+use Rattle.machine.specs.State.{Machine, Check, check, Verdict, accepted, refusal, first, passes}
+use Rattle.machine.specs.Soundness.{freshChecks}
+use Rattle.machine.specs.Step.{nextChecks}
+
+-- M and the memories' lengths are such as fresh takes, and the head lies in the queue memory: so no read leaves a memory
+abbrev pub within : Machine → Bool
+within m = passes (freshChecks (m .header .rules) (m .core) (m .queue)) && ltb (m .header .ring .head) (length (m .queue))
+
+-- 9 where that is not so, then the order of a step after its header's 9
+abbrev pub refusalChecks : Machine → List Check
+refusalChecks m = check (not (within m)) 9 ∷ nextChecks m
+
+-- the number of the row and its value; 0 where none applies
+abbrev pub toldOf : Verdict → Told
+toldOf accepted = gives 0 0
+toldOf (refusal n v) = gives n v
+
+-- the first that applies
+unfoldable pub refused : Machine → Told
+refused m = toldOf (first (refusalChecks m))

@@ -1,0 +1,85 @@
+-- Laws of one operand that reads sound cells: what the code gives of it is the machine's.
+-- Assumes nothing.
+use mathlib.Core.Path.{_≡_, sym, ap, ap₂, _∙_}
+use mathlib.Core.Bool.{true}
+use mathlib.Core.List.{List}
+use Prim.Native.Nat.{ℕ, _%_, _≤_, _<_, zero-le}
+use lib.ListN.{length, getD, set}
+use Rattle.laws.proofs.Cases.{span}
+use Rattle.offset.specs.declared.Absolute.{Absolute}
+use Rattle.offset.specs.Offset.{ahead}
+use Rattle.cell.specs.Cells.{packed, unpacked, soundWord, number, withNumber}
+use Rattle.machine.specs.declared.Rules.{Rules}
+use Rattle.machine.specs.Pointers as machine
+use Rattle.machine.specs.Pointers.{shifts, keeps, used, more, shifted, siteAt, operand}
+use Rattle.word.specs.Words.{fieldBy}
+use Rattle.address.specs.inner.Operands.{soundSeen, Ready}
+use Rattle.address.proofs.Pointing as law
+use Rattle.steps.specs.declared.operand.Operand.{Operand}
+use Rattle.steps.specs.inner.Instruction.{operandOf}
+
+module _ (rules : Rules) (core : List ℕ) (pc mode n : ℕ) where
+  abbrev its : machine.Operand
+  its = operand (siteAt rules pc) core mode n
+
+  abbrev size : ℕ
+  size = rules .size
+
+  -- an operand, and the core after it
+  abbrev Gives : Operand → List ℕ → Type 0
+  Gives r l = (r ≡ operandOf its) × (l ≡ its .core)
+
+  gives : {pointer : Absolute} {register : ℕ} {l : List ℕ} → law.Points rules core pc mode n (pointer .0) register l → Gives (record { pointer = pointer; register = register }) l
+  gives p = (λ i. record { pointer = record { 0 = sym (p .reads) i }; register = p .copies i }, p .leaves)
+
+  module _ (k : Ready rules core pc n) (seen : soundSeen size its ≡ true) (location : Absolute) (is : location .0 ≡ ahead size pc n) where
+    there-sound : soundWord size (getD core (location .0) 0) ≡ true
+    there-sound = rw is (law.read-sound rules core pc mode n seen)
+
+    pub hash : (pc′ : Absolute) → pc′ .0 ≡ pc → (here : ℕ) → here ≡ getD core pc 0 → soundWord size here ≡ true → mode ≡ 0
+        → Gives (record { pointer = pc′; register = here }) core
+    hash pc′ ep here eh s e =
+        gives {pointer = pc′} (rw (ep, eh) (law.hash rules core pc mode n k (location .0) is there-sound (rw eh at s) e))
+
+    pub dollar : mode ≡ 1 → Gives (record { pointer = location; register = getD core (location .0) 0 }) core
+    dollar e = gives {pointer = location} (law.dollar rules core pc mode n k (location .0) is there-sound e)
+
+    module _ (two : 2 ≤ mode) (eight : mode < 8) (found to : ℕ) (pointer : Absolute) (es : found ≡ number (fieldBy (mode % 2)) (unpacked (getD core (location .0) 0)))
+        (et : to ≡ used (getD shifts mode keeps) size found) (ep : pointer .0 ≡ ahead size (location .0) to) where
+      pointed : soundWord size (getD core (pointer .0) 0) ≡ true
+      pointed =
+          rw (← law.points rules core pc mode n k (location .0) is two eight there-sound found to (pointer .0) es et ep)
+          (law.pointer-sound rules core pc mode n k seen)
+
+      pub plain : mode < 4 → Gives (record { pointer = pointer; register = getD core (pointer .0) 0 }) core
+      plain l = gives {pointer = pointer} (law.plain rules core pc mode n k (location .0) is two eight there-sound found to (pointer .0) es et ep pointed l)
+
+      module _ (l : List ℕ) (word : ℕ) (el : l ≡ set core (location .0) word) where
+        pub lower : 4 ≤ mode → mode < 6 → word ≡ packed (withNumber (fieldBy (mode % 2)) to (unpacked (getD core (location .0) 0)))
+            → (register : ℕ) → register ≡ getD (set core (location .0) word) (pointer .0) 0
+            → Gives (record { pointer = pointer; register = register }) l
+        lower p q ew register er =
+            gives {pointer = pointer} (law.lower rules core pc mode n k (location .0) is two eight there-sound found to (pointer .0) es et ep pointed l word el p q ew register er)
+
+        pub raise : 6 ≤ mode → (up : ℕ) → up ≡ more size found → word ≡ packed (withNumber (fieldBy (mode % 2)) up (unpacked (getD core (location .0) 0)))
+            → (register : ℕ) → register ≡ getD core (pointer .0) 0
+            → Gives (record { pointer = pointer; register = register }) l
+        raise p up eu ew register er =
+            gives {pointer = pointer} (law.raise rules core pc mode n k (location .0) is two eight there-sound found to (pointer .0) es et ep pointed l word el p up eu ew register er)
+
+-- the same mode and number by other names
+pub same-operand : (rules : Rules) (core : List ℕ) (pc : ℕ) {m n m' n' : ℕ} → m ≡ m' → n ≡ n' → operand (siteAt rules pc) core m n ≡ operand (siteAt rules pc) core m' n'
+same-operand rules core pc e f = ap₂ (λ (i j : ℕ). operand (siteAt rules pc) core i j) e f
+
+pub as-named : {o p : machine.Operand} {r : Operand} {l : List ℕ} → o ≡ p → (r ≡ operandOf o) × (l ≡ o .core) → (r ≡ operandOf p) × (l ≡ p .core)
+as-named e g = (g .0 ∙ ap operandOf e, g .1 ∙ ap (λ (o : machine.Operand). o .core) e)
+
+pub still-seen : (size : ℕ) {o p : machine.Operand} → o ≡ p → soundSeen size p ≡ true → soundSeen size o ≡ true
+still-seen size e h = ap (soundSeen size) e ∙ h
+
+-- the writes of an operand, by its mode
+pub no-change : (mode : ℕ) → mode < 4 → 0 ≡ length (shifted (getD shifts mode keeps) 0)
+no-change mode h = span mode 0 4 zero-le h (λ e. rw e, (λ e. rw e, (λ e. rw e, (λ e. rw e, tt))))
+
+pub one-change : (mode : ℕ) → 4 ≤ mode → mode < 8 → 1 ≡ length (shifted (getD shifts mode keeps) 0)
+one-change mode l h = span mode 4 4 l h (λ e. rw e, (λ e. rw e, (λ e. rw e, (λ e. rw e, tt))))

@@ -1,0 +1,5 @@
+pub mod Instruction
+pub mod Acts
+pub mod Turn
+pub mod Stepping
+pub mod Ready
