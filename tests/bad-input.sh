@@ -1,5 +1,5 @@
 #!/bin/sh
-# Tries bin/play and bin/make-match with bad input and bad use: each try must end within a second, with the status and the lines that are wanted.
+# Tries bin/play and bin/make-match with bad input and bad use: each try must end within five seconds, with the status and the lines that are wanted.
 # Run as: tests/bad-input.sh
 root=$(dirname -- "$(dirname -- "$(readlink -f -- "$0")")")
 work=$(mktemp -d) || exit 1
@@ -21,7 +21,7 @@ count() {
 run() {
     from=$1
     shift
-    timeout 1 "$@" <"$from" >"$work/out" 2>"$work/err"
+    timeout 5 "$@" <"$from" >"$work/out" 2>"$work/err"
     status=$?
     out=$(grep -a -c '' "$work/out")
     err=$(grep -a -c '' "$work/err")
@@ -55,22 +55,36 @@ prints() {
     count "$verdict" "$* ($lines lines wanted)"
 }
 
-# A match file that play plays, or a complaint.
+# A match file that play plays, or a complaint; the first argument is the status that a complaint has.
 makes_or_complains() {
+    complaint=$1
+    shift
     run "$@"
     verdict=no
-    if [ "$status" -eq 1 ]; then
-        [ "$err" -eq 1 ] && [ ! -s "$work/out" ] && verdict=yes
-    elif [ "$status" -eq 0 ] && [ "$err" -eq 0 ]; then
+    if [ "$err" -gt 0 ]; then
+        [ "$status" -eq "$complaint" ] && [ "$err" -eq 1 ] && [ ! -s "$work/out" ] && verdict=yes
+    elif [ "$status" -eq 0 ]; then
         cp "$work/out" "$work/made"
-        run "$work/made" "$play"
+        run "$work/made" "$built/play"
         [ "$status" -eq 0 ] && [ "$out" -ge 2 ] && [ "$err" -eq 0 ] && verdict=yes
     fi
     count "$verdict" "$*"
 }
 
+# A shell command that ends with one line on standard error and status 1.
+fails() {
+    timeout 5 sh -c "$1" play "$play" "$make" 2>"$work/err" >"$work/out"
+    status=$?
+    out=$(grep -a -c '' "$work/out")
+    err=$(grep -a -c '' "$work/err")
+    verdict=no
+    [ "$status" -eq 1 ] && [ "$err" -eq 1 ] && [ ! -s "$work/out" ] && verdict=yes
+    count "$verdict" "$1"
+}
+
 play=$root/bin/play
 make=$root/bin/make-match
+built=$root/target/bin
 none=/dev/null
 
 # Both programs are built before anything is timed.
@@ -129,12 +143,27 @@ complains "$none" "$make" ''
 complains "$none" "$make" -x
 complains "$none" "$make" 'a text' 'a text'
 prints 1 "$none" "$make" --help
-makes_or_complains "$none" "$make" 'a text'
-makes_or_complains 'a text' "$make"
+makes_or_complains 1 "$none" "$make" 'a text'
+makes_or_complains 1 'a text' "$make"
 complains "$none" "$make" "$root/examples/refused.txt"
 for file in short large unannounced sizeonly nocore opcode seventeen toolong; do
     complains "$none" "$make" "$file"
 done
+
+# Output that does not arrive, and input that cannot be read.
+fails '"$1" "a match file" >/dev/full'
+fails '"$1" <"a match file" >/dev/full'
+fails '"$1" "a match file" "a match file" >/dev/full'
+fails '"$1" --help >/dev/full'
+fails '"$1" "a match file" >&-'
+fails '"$1" <directory'
+fails '"$1" <&-'
+fails '"$2" "a text" >/dev/full'
+fails '"$2" <"a text" >/dev/full'
+fails '"$2" "a text" >&-'
+fails '"$2" <directory'
+fails '"$2" <&-'
+prints 2 "$none" sh -c '"$1" "a match file" <&-' play "$play"
 
 # A file that may not be read; there is none for root.
 cp 'a text' unreadable
@@ -154,13 +183,13 @@ for tool in play make-match; do
     complains "$none" env PATH="$work/path" "elsewhere/bin/$tool" 'a text'
 done
 
-# Every example, cut at every 7th byte.
+# Every example, cut at every 7th byte, given to the programs themselves: they end with status 0, as every such program does.
 for example in "$root"/examples/*.match; do
     size=$(wc -c <"$example")
     at=0
     while [ "$at" -lt "$size" ]; do
         head -c "$at" "$example" >cut
-        answers "13 $at" cut "$play"
+        answers "13 $at" cut "$built/play"
         at=$((at + 7))
     done
 done
@@ -169,7 +198,7 @@ for example in "$root"/examples/*.txt; do
     at=0
     while [ "$at" -lt "$size" ]; do
         head -c "$at" "$example" >cut
-        makes_or_complains "$none" "$make" cut
+        makes_or_complains 0 cut "$built/make_match"
         at=$((at + 7))
     done
 done
