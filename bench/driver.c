@@ -1,280 +1,198 @@
-// Times the proved calls and the plain C on the same battles, turn by turn, and compares what both leave.
-//   driver                      the table, in ns per step
-//   driver agree SEED COUNT     random battles on small cores: both leave the same
-//   driver count WHO BATTLE N   N steps of one battle by WHO (run, plain, step, outer, plain-step), for instruction counts
-//   driver redcode BATTLE PART  a battle's warrior, or a part of it from a cell on, as text for pMARS
+// Times the library, the plain C and pMARS on the same battles, in one process: CPU time, short turns, one rival after the
+// other in each turn, the least of all turns.
+//   driver TURNS                the least of so many turns, in ns, for measure.py
+//   driver agree SEED COUNT     random records on small cores: the library and the plain C leave the same
+//   driver count WHO BATTLE N   N steps of one battle by WHO (run, plain, pmars, step, plain-step), for instruction counts;
+//                               by idle, N calls of run that play nothing
 //   driver oracle BATTLE N      a battle of N steps as a line for tools/oracle
-#include "plain.h"
-#include "sumacadze.h"
+#include "pmars.h"
+#include "records.h"
 #include <stdio.h>
 #include <stdlib.h>
 #include <string.h>
 #include <time.h>
 
-void bench_run(uint64_t *core, size_t m, uint64_t *queue, size_t limit, const uint8_t *body, size_t bytes, uint64_t *report,
-               uint32_t size, uint16_t second, uint64_t ceiling);
-void bench_steps(uint64_t *core, size_t m, uint64_t *queue, size_t limit, const uint8_t *body, size_t bytes, uint64_t *report,
-                 uint32_t size, uint16_t second, uint64_t ceiling);
-_Bool bench_sound(const uint64_t *core, size_t m, const uint64_t *queue, size_t limit, const uint8_t *names,
-                  const uint8_t *lengths, const uint32_t *counts, uint32_t size, uint32_t head, uint32_t length, uint32_t held);
+// the steps of a turn, in runs and as single steps, and how many lengths of runs there are
+enum { TURN = 100000, FEW = 5000, LENGTHS = 3 };
 
-enum { M = 8000, LIMIT = 2000 };
+static const double NEVER = 1e9;
 
-typedef struct {
-    int at, opcode, modifier, a_mode, b_mode, a, b;
-} line;
-
-typedef struct {
-    const char *name;
-    uint16_t second;
-    line lines[24];
-} battle;
-
-// opcodes, modifiers and modes by document 01's numbers; a line with opcode -1 ends a battle
-static const battle BATTLES[] = {
-    {"imp", 0, {{0, 1, 6, 1, 1, 0, 1}, {.opcode = -1}}},
-    {"dwarf", 0, {{0, 2, 2, 0, 1, 4, 3}, {1, 1, 6, 1, 3, 2, 2}, {2, 7, 1, 1, 1, -2, 0}, {3, 0, 4, 0, 0, 0, 0}, {.opcode = -1}}},
-    // a dwarf whose bombs fall beside a warrior that splits off children, which end at once
-    {"splitter", 4000,
-     {{0, 2, 2, 0, 1, 4, 3}, {1, 1, 6, 1, 3, 2, 2}, {2, 7, 1, 1, 1, -2, 0}, {3, 0, 4, 0, 0, 0, 0},
-      {4000, 15, 1, 1, 1, 2, 0}, {4001, 7, 1, 1, 1, -1, 0}, {4002, 0, 4, 1, 1, 0, 0}, {.opcode = -1}}},
-    // a loop over all opcodes but those that end or split, with all modes and modifiers
-    {"mixed", 0,
-     {{0, 1, 0, 6, 1, 40, 60}, {1, 2, 1, 7, 2, 41, 42}, {2, 3, 0, 4, 3, 43, 44}, {3, 4, 5, 1, 1, 45, 46}, {4, 1, 2, 0, 1, 5, 75},
-      {5, 5, 2, 0, 1, 7, 70}, {6, 6, 2, 0, 1, 7, 73}, {7, 8, 3, 1, 0, 1, 0}, {8, 9, 0, 1, 1, 1, 50}, {9, 10, 1, 1, 1, 1, 51},
-      {10, 11, 6, 1, 5, 52, 53}, {11, 16, 4, 1, 1, 0, 0}, {12, 12, 5, 4, 6, 54, 55}, {13, 16, 4, 1, 1, 0, 0}, {14, 13, 4, 5, 7, 56, 57},
-      {15, 16, 4, 1, 1, 0, 0}, {16, 14, 1, 0, 1, 3, 58}, {17, 16, 4, 1, 1, 0, 0}, {18, 7, 1, 1, 1, -18, 0}, {75, 0, 4, 1, 1, 3, 5},
-      {.opcode = -1}}},
-};
-enum { COUNT = sizeof BATTLES / sizeof *BATTLES };
-
-static uint64_t core[2][M], queue[2][LIMIT];
-static uint8_t body[12 * M];
+static record ours, plain;
+static start begun;
 
 static double now(void) {
     struct timespec t;
-    clock_gettime(CLOCK_MONOTONIC, &t);
+    clock_gettime(CLOCK_PROCESS_CPUTIME_ID, &t);
     return t.tv_sec * 1e9 + t.tv_nsec;
 }
 
-static uint64_t packed(const uint8_t *p, uint32_t size) {
-    int32_t n[2];
-    memcpy(n, p + 4, 8);
-    uint64_t a = ((int64_t)n[0] % size + size) % size, b = ((int64_t)n[1] % size + size) % size;
-    return (uint64_t)p[0] << 41 | (uint64_t)p[1] << 38 | (uint64_t)p[2] << 35 | (uint64_t)p[3] << 32 | a << 16 | b;
+static void shorten(double *least, double t) {
+    if (t < *least)
+        *least = t;
 }
 
-static void put(uint32_t at, int opcode, int modifier, int a_mode, int b_mode, int32_t a, int32_t b) {
-    uint8_t *p = body + 12 * at;
-    p[0] = opcode, p[1] = modifier, p[2] = a_mode, p[3] = b_mode;
-    memcpy(p + 4, &a, 4);
-    memcpy(p + 8, &b, 4);
+static void demand(bool held, const char *what, const battle *b) {
+    if (held)
+        return;
+    fprintf(stderr, "%s: %s\n", b->name, what);
+    exit(1);
 }
 
-// the body of a battle, and its number of instructions
-static uint32_t bodied(const battle *b) {
-    uint32_t n = 0;
-    for (const line *l = b->lines; l->opcode >= 0; l++)
-        n = l->at + 1;
-    for (uint32_t i = 0; i < n; i++)
-        put(i, 0, 4, 1, 1, 0, 0);
-    for (const line *l = b->lines; l->opcode >= 0; l++)
-        put(l->at, l->opcode, l->modifier, l->a_mode, l->b_mode, l->a, l->b);
-    return n;
-}
-
-static double plainly(uint32_t size, uint32_t limit, uint32_t n, uint16_t second, uint64_t ceiling, uint64_t *report) {
-    header h = plain_fresh(size, core[1], queue[1], limit);
-    for (uint32_t i = 0; i < n; i++)
-        core[1][i] = packed(body + 12 * i, size);
-    plain_start(queue[1], limit, &h, "first", 0);
-    if (second)
-        plain_start(queue[1], limit, &h, "second", second % size);
+// a turn's runs, each of so many steps more; ns per step
+static double run_turn(running *run, record *r, long steps) {
     double t = now();
-    outcome o = plain_run(core[1], queue[1], limit, &h, ceiling);
+    for (long left = TURN; left > 0; left -= steps)
+        play_run(run, r, steps);
+    return (now() - t) / TURN;
+}
+
+static double step_turn(stepping *step, record *r) {
+    double t = now();
+    play_steps(step, r, FEW);
+    return (now() - t) / FEW;
+}
+
+// a turn's runs, each from the beginning: pMARS sets up, plays one step of each warrior and, in a full run, so many more;
+// the time as ns for each of the turn's steps
+static double pmars_turn(const battle *b, long steps, bool full) {
+    bool all = true;
+    double t = now();
+    for (long left = TURN; left > 0; left -= steps)
+        all &= pmars_play(b->names + (full ? steps : 0));
     t = now() - t;
-    report[0] = o.answer, report[1] = o.steps, report[2] = o.writes, report[3] = h.head, report[4] = h.length;
-    return t;
+    demand(all, "pMARS did not play all steps", b);
+    return t / TURN;
 }
 
-static double proved(uint32_t size, uint32_t limit, uint32_t n, uint16_t second, uint64_t ceiling, uint64_t *report) {
-    double t = now();
-    bench_run(core[0], size, queue[0], limit, body, 12 * n, report, size, second, ceiling);
-    return now() - t;
-}
-
-static double stepped(uint32_t size, uint32_t limit, uint32_t n, uint16_t second, uint64_t ceiling, uint64_t *report) {
-    double t = now();
-    bench_steps(core[0], size, queue[0], limit, body, 12 * n, report, size, second, ceiling);
-    return now() - t;
-}
-
-// each step a call of the exported function on a header that C keeps
-static double outer(uint32_t size, uint32_t limit, uint32_t n, uint16_t second, uint64_t ceiling, uint64_t *report) {
-    sumacadze_fresh_t f = sumacadze_fresh((sumacadze_rules_t){.size = size}, core[0], size, queue[0], limit);
-    sumacadze_header_t *h = &f.header;
-    sumacadze_load(core[0], size, queue[0], limit, h, (const uint8_t *)"first", 5, body, 12 * n, 0, 0);
-    if (second)
-        sumacadze_load(core[0], size, queue[0], limit, h, (const uint8_t *)"second", 6, body, 0, second, 0);
-    sumacadze_report_t r = {0};
-    uint64_t writes = 0, steps = 0;
-    double t = now();
-    for (uint64_t i = 0; i < ceiling && !r.number; i++) {
-        r = sumacadze_step(core[0], size, queue[0], limit, h);
-        writes += r.writes, steps += r.steps;
-    }
-    t = now() - t;
-    report[0] = r.number, report[1] = steps, report[2] = writes, report[3] = h->ring.head, report[4] = h->ring.length;
-    return t;
-}
-
-// each step a call of the plain C's step, which tests the header as the others do
-static double plain_steps(uint32_t size, uint32_t limit, uint32_t n, uint16_t second, uint64_t ceiling, uint64_t *report) {
-    header h = plain_fresh(size, core[1], queue[1], limit);
-    for (uint32_t i = 0; i < n; i++)
-        core[1][i] = packed(body + 12 * i, size);
-    plain_start(queue[1], limit, &h, "first", 0);
-    if (second)
-        plain_start(queue[1], limit, &h, "second", second % size);
-    outcome r = {0};
-    uint64_t writes = 0, steps = 0;
-    double t = now();
-    for (uint64_t i = 0; i < ceiling && !r.answer; i++) {
-        r = plain_step(core[1], size, queue[1], limit, &h);
-        writes += r.writes, steps += r.steps;
-    }
-    t = now() - t;
-    report[0] = r.answer, report[1] = steps, report[2] = writes, report[3] = h.head, report[4] = h.length;
-    return t;
-}
-
-typedef double player(uint32_t, uint32_t, uint32_t, uint16_t, uint64_t, uint64_t *);
-
-static int same(uint32_t size, uint32_t limit, const uint64_t *x, const uint64_t *y) {
-    return !memcmp(core[0], core[1], size * 8) && !memcmp(queue[0], queue[1], limit * 8) && !memcmp(x, y, 40);
-}
-
-static int agree(int seed, int count) {
-    uint64_t x[5], y[5], steps = 0;
-    srand(seed);
-    for (int i = 0; i < count; i++) {
-        uint32_t size = 1 + rand() % 20, limit = 1 + rand() % 6, n = 1 + rand() % size;
-        for (uint32_t k = 0; k < n; k++)
-            put(k, rand() % (rand() % 8 ? 17 : 19), rand() % 7, rand() % 8, rand() % 8, rand() % 60 - 30, rand() % 60 - 30);
-        uint16_t second = limit > 1 ? rand() % 30 : 0;
-        uint64_t ceiling = 1 + rand() % 60;
-        proved(size, limit, n, second, ceiling, x);
-        plainly(size, limit, n, second, ceiling, y);
-        steps += x[1];
-        if (!same(size, limit, x, y)) {
-            printf("battle %d differs: size %u\n", i, size);
-            return 1;
-        }
-        outer(size, limit, n, second, ceiling, x);
-        plain_steps(size, limit, n, second, ceiling, y);
-        if (!same(size, limit, x, y)) {
-            printf("battle %d differs step by step: size %u\n", i, size);
-            return 1;
-        }
-    }
-    printf("%d battles, %llu steps: the same\n", count, (unsigned long long)steps);
-    return 0;
-}
-
-// the lines of a battle that are a warrior of its own: those from its start on
-static void redcode(const battle *b, int start) {
-    const char *codes[] = {"DAT", "MOV", "ADD", "SUB", "MUL", "DIV", "MOD", "JMP", "JMZ", "JMN", "DJN", "CMP", "SEQ", "SNE", "SLT", "SPL", "NOP"};
-    const char *modifiers[] = {"A", "B", "AB", "BA", "F", "X", "I"};
-    int at = start;
-    for (const line *l = b->lines; l->opcode >= 0; l++) {
-        if (l->at < start || (start == 0 && b->second && l->at >= b->second))
-            continue;
-        for (; at < l->at; at++)
-            printf("DAT.F $0, $0\n");
-        printf("%s.%s %c%d, %c%d\n", codes[l->opcode], modifiers[l->modifier], "#$*@{<}>"[l->a_mode], l->a, "#$*@{<}>"[l->b_mode], l->b);
-        at++;
+// a battle of one name goes the same way in pMARS: each step is at the same place
+static void same_way(const battle *b) {
+    if (b->names > 1)
+        return;
+    start_of(&begun, b);
+    library_record(&ours, &begun);
+    pmars_set(b);
+    for (long steps = 1; steps <= FEW; steps++) {
+        long next = ours.queue[ours.header.ring.head] & 0xffff;
+        demand(pmars_play(steps) && pmars_place() == next, "pMARS goes another way", b);
+        play_run(sumacadze_run, &ours, 1);
     }
 }
 
-static void oracle(const battle *b, const char *steps) {
-    printf("%d | load =first -", M);
-    int at = 0;
-    for (const line *l = b->lines; l->opcode >= 0; l++) {
-        for (; at < l->at; at++)
-            printf(" 0.4.1.1.0.0");
-        printf(" %d.%d.%d.%d.%d.%d", l->opcode, l->modifier, l->a_mode, l->b_mode, l->a, l->b);
-        at++;
-    }
-    if (b->second)
-        printf(" | load =second %d", b->second);
-    printf(" | run %s\n", steps);
+// a row of the table of runs: the least of each rival, in ns per step; pMARS' with its setting up, and that alone
+typedef struct {
+    const battle *b;
+    long steps;
+    double run, c, full, setting_up;
+} run_row;
+
+static void run_row_turn(run_row *row) {
+    start_of(&begun, row->b);
+    library_record(&ours, &begun);
+    plain_record(&plain, &begun);
+    pmars_set(row->b);
+    shorten(&row->run, run_turn(sumacadze_run, &ours, row->steps));
+    shorten(&row->full, pmars_turn(row->b, row->steps, true));
+    shorten(&row->setting_up, pmars_turn(row->b, row->steps, false));
+    shorten(&row->c, run_turn(plain_run, &plain, row->steps));
+    demand(ours.header.steps == TURN && same_records(&ours, &plain), "the two differ, or it ended", row->b);
 }
 
-static double least(double x, double y) { return x < y ? x : y; }
-
-static double sound_test(void) {
-    header h = plain_fresh(M, core[0], queue[0], LIMIT);
-    plain_start(queue[0], LIMIT, &h, "first", 0);
-    int times = 2000000, all = 0;
-    double t = now();
-    for (int i = 0; i < times; i++)
-        all += bench_sound(core[0], M, queue[0], LIMIT, h.names, h.lengths, h.counts, M, h.head, h.length, h.held);
-    t = now() - t;
-    return all == times ? t / times : -1;
+static void print_run_row(const run_row *row) {
+    printf("run %s %ld %.3f %.3f %.3f %.3f\n", row->b->name, row->steps, row->run, row->c, row->full, row->setting_up);
 }
 
-static double load_time(void) {
-    uint64_t report[5];
-    double full = 1e18, empty = 1e18;
+// a row of the table of steps
+typedef struct {
+    const battle *b;
+    double step, c;
+} step_row;
+
+static void step_row_turn(step_row *row) {
+    start_of(&begun, row->b);
+    library_record(&ours, &begun);
+    plain_record(&plain, &begun);
+    shorten(&row->step, step_turn(sumacadze_step, &ours));
+    shorten(&row->c, step_turn(plain_step, &plain));
+    demand(ours.header.steps == FEW && same_records(&ours, &plain), "the two differ, or it ended", row->b);
+}
+
+static void print_step_row(const step_row *row) {
+    printf("step %s %d %.3f %.3f\n", row->b->name, row->b->names, row->step, row->c);
+}
+
+// a load of M instructions, each with a default modifier; ns for each
+static double load_turn(void) {
+    start_of(&begun, &BATTLES[0]);
     for (uint32_t i = 0; i < M; i++)
-        put(i, 1, 255, 1, 1, -7, 9);
-    for (int i = 0; i < 40; i++) {
-        full = least(full, proved(M, LIMIT, M, 0, 0, report));
-        empty = least(empty, proved(M, LIMIT, 0, 0, 0, report));
+        put(&begun, i, (line){0, 1, 255, 1, 1, -7, 9});
+    library_record(&ours, &begun);
+    sumacadze_header_t *h = &ours.header;
+    double t = now();
+    sumacadze_report_t r = sumacadze_load(ours.core, M, ours.queue, LIMIT, h, (const uint8_t *)"a", 1, begun.body, 12 * M, 0, 0);
+    t = now() - t;
+    demand(r.number == 0, "the load was refused", &BATTLES[0]);
+    return t / M;
+}
+
+// every row has a part of each turn, so that a time in which the machine is slower falls on all of them
+static void measure(run_row runs[FOUR][LENGTHS], step_row steps[ALL], double *load, int turns) {
+    for (int turn = 0; turn < turns; turn++) {
+        for (int i = 0; i < FOUR; i++)
+            for (int k = 0; k < LENGTHS; k++)
+                run_row_turn(&runs[i][k]);
+        for (int i = 0; i < ALL; i++)
+            step_row_turn(&steps[i]);
+        shorten(load, load_turn());
     }
-    return (full - empty) / M;
+}
+
+static void rows(int turns) {
+    for (int i = 0; i < FOUR; i++)
+        same_way(&BATTLES[i]);
+    const long lengths[LENGTHS] = {100, 10000, 100000};
+    static run_row runs[FOUR][LENGTHS];
+    static step_row steps[ALL];
+    double load = NEVER;
+    for (int i = 0; i < FOUR; i++)
+        for (int k = 0; k < LENGTHS; k++)
+            runs[i][k] = (run_row){&BATTLES[i], lengths[k], NEVER, NEVER, NEVER, NEVER};
+    for (int i = 0; i < ALL; i++)
+        steps[i] = (step_row){&BATTLES[i], NEVER, NEVER};
+    measure(runs, steps, &load, turns);
+    for (int i = 0; i < FOUR; i++)
+        for (int k = 0; k < LENGTHS; k++)
+            print_run_row(&runs[i][k]);
+    for (int i = 0; i < ALL; i++)
+        print_step_row(&steps[i]);
+    printf("load instruction %d %.3f\n", M, load);
+}
+
+static void count(const char *who, const battle *b, long steps) {
+    start_of(&begun, b);
+    library_record(&ours, &begun);
+    if (!strcmp(who, "run"))
+        play_run(sumacadze_run, &ours, steps);
+    else if (!strcmp(who, "plain"))
+        play_run(plain_run, &ours, steps);
+    else if (!strcmp(who, "step"))
+        play_steps(sumacadze_step, &ours, steps);
+    else if (!strcmp(who, "plain-step"))
+        play_steps(plain_step, &ours, steps);
+    else if (!strcmp(who, "pmars"))
+        pmars_set(b), pmars_play(steps);
+    else if (!strcmp(who, "idle"))
+        for (long i = 0; i < steps; i++)
+            play_run(sumacadze_run, &ours, 0);
 }
 
 int main(int n, char **word) {
-    uint64_t x[5], y[5];
     if (n == 4 && !strcmp(word[1], "agree"))
         return agree(atoi(word[2]), atoi(word[3]));
-    if (n == 5 && !strcmp(word[1], "count")) {
-        const battle *b = &BATTLES[atoi(word[3])];
-        uint32_t length = bodied(b);
-        player *by = !strcmp(word[2], "run")     ? proved
-                     : !strcmp(word[2], "plain") ? plainly
-                     : !strcmp(word[2], "step")  ? stepped
-                     : !strcmp(word[2], "outer") ? outer
-                                                 : plain_steps;
-        by(M, LIMIT, length, b->second, atoll(word[4]), x);
-        return 0;
-    }
-    if (n == 4 && !strcmp(word[1], "redcode"))
-        return redcode(&BATTLES[atoi(word[2])], atoi(word[3])), 0;
+    if (n == 5 && !strcmp(word[1], "count"))
+        return count(word[2], &BATTLES[atoi(word[3])], atol(word[4])), 0;
     if (n == 4 && !strcmp(word[1], "oracle"))
         return oracle(&BATTLES[atoi(word[2])], word[3]), 0;
-    player *players[] = {proved, plainly, stepped, outer, plain_steps};
-    printf("%-10s %8s %8s %8s %8s %8s %8s %8s\n", "battle", "run", "plain C", "run/C", "step", "outer", "plain C", "outer/C");
-    for (int i = 0; i < COUNT; i++) {
-        uint64_t steps = 20000000;
-        uint32_t length = bodied(&BATTLES[i]);
-        double best[5] = {1e18, 1e18, 1e18, 1e18, 1e18};
-        for (int turn = 0; turn < 7; turn++)
-            for (int k = 0; k < 5; k++) {
-                uint64_t some = k < 2 ? steps : steps / 10;
-                best[k] = least(best[k], players[k](M, LIMIT, length, BATTLES[i].second, some, k % 2 ? y : x) / some);
-            }
-        proved(M, LIMIT, length, BATTLES[i].second, steps, x);
-        plainly(M, LIMIT, length, BATTLES[i].second, steps, y);
-        if (x[1] != steps || !same(M, LIMIT, x, y)) {
-            printf("%s: the two differ, or it ended: %llu steps\n", BATTLES[i].name, (unsigned long long)x[1]);
-            return 1;
-        }
-        printf("%-10s %8.1f %8.1f %8.2f %8.1f %8.1f %8.1f %8.2f\n", BATTLES[i].name, best[0], best[1], best[0] / best[1], best[2],
-               best[3], best[4], best[3] / best[4]);
-    }
-    printf("the test of a header with one name: %.0f ns\n", sound_test());
-    printf("load, for an instruction: %.1f ns\n", load_time());
-    return 0;
+    if (n == 2)
+        return rows(atoi(word[1])), 0;
+    return 2;
 }

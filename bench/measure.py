@@ -1,11 +1,14 @@
-# Measures what run.sh built, all in one run: measure.py WORK
-# A program's time per step is the difference of two runs, one with ten times the steps, the least of five turns.
+# Measures what run.sh built: measure.py WORK
+# The driver is started several times, since pMARS' time depends on the addresses that a process gets; the least of each
+# figure is kept. Then instructions a step by callgrind, the difference of two lengths; and the Rust, if it was built, as a
+# program: CPU time, the difference of two lengths, the least of five turns.
+import os
+import resource
 import subprocess
 import sys
-import time
 
-BATTLES = ["imp", "dwarf", "splitter", "mixed"]
-SECOND = {"splitter": 4000}
+BATTLES = ["imp", "dwarf", "splitter", "mixed", "imps of 2 names", "imps of 16 names"]
+STARTS, TURNS = 12, 40
 work = sys.argv[1]
 
 
@@ -13,50 +16,78 @@ def text(*words):
     return subprocess.run([f"{work}/driver", *map(str, words)], check=True, capture_output=True, text=True).stdout
 
 
-def seconds(command, given):
-    begun = time.perf_counter()
-    subprocess.run(command, input=given, text=True, stdout=subprocess.DEVNULL, stderr=subprocess.DEVNULL, check=False)
-    return time.perf_counter() - begun
+def least():
+    """The least of each figure, by kind, battle and number."""
+    found = {}
+    for _ in range(STARTS):
+        for line in text(TURNS).splitlines():
+            kind, name, number, *figures = line.split()
+            figures = [float(x) for x in figures]
+            before = found.get((kind, name, int(number)), figures)
+            found[kind, name, int(number)] = [min(x, y) for x, y in zip(before, figures)]
+    return found
 
 
-def pmars(i, steps):
-    files = []
-    starts = [0, SECOND[BATTLES[i]]] if BATTLES[i] in SECOND else [0]
-    for start in starts:
-        files.append(f"{work}/battle-{start}.red")
-        with open(files[-1], "w") as out:
-            out.write(text("redcode", i, start))
-    options = ["-b", "-r", "1", "-s", "8000", "-p", "2000", "-c", str(steps // len(starts))]
-    fixed = ["-F", str(starts[1])] if len(starts) > 1 else []
-    return [f"{work}/pmars-server", *options, *fixed, *files], ""
+def instructions(who, i, steps):
+    """Instructions that one step takes."""
+    total = []
+    for n in [steps, 2 * steps]:
+        command = ["valgrind", "--tool=callgrind", f"--callgrind-out-file={work}/callgrind.out", f"{work}/driver", "count", who, str(i), str(n)]
+        said = subprocess.run(command, check=True, capture_output=True, text=True).stderr
+        total.append(int(said.split("Collected :")[1].split()[0]))
+    return (total[1] - total[0]) / steps
 
 
-def rust(program):
-    return lambda i, steps: ([f"{work}/{program}/oracle"], text("oracle", i, steps))
+def spent():
+    used = resource.getrusage(resource.RUSAGE_CHILDREN)
+    return used.ru_utime + used.ru_stime
 
 
-def per_step(player, i, steps):
+def seconds(program, given):
+    begun = spent()
+    subprocess.run([program], input=given, text=True, stdout=subprocess.DEVNULL, stderr=subprocess.DEVNULL, check=False)
+    return spent() - begun
+
+
+def rust(program, i, steps):
+    """Nanoseconds that one step of the Rust takes."""
     best = [1e9, 1e9]
     for _ in range(5):
         for k, n in enumerate([steps // 10, steps]):
-            best[k] = min(best[k], seconds(*player(i, n)))
+            best[k] = min(best[k], seconds(program, text("oracle", i, n)))
     return (best[1] - best[0]) / (steps - steps // 10) * 1e9
 
 
-print(text("agree", 1, 100000))
-print(text())
-print(f"{'battle':10} {'pMARS':>8} {'Rust':>8} {'quiet':>8}")
+def row(name, numbers, digits):
+    print(f"| {name} |", " | ".join(f"{x:.{digits}f}" for x in numbers), "|", flush=True)
+
+
+def times():
+    """The tables of times, with their ratios."""
+    found = least()
+    print("| battle | steps | run | plain C | pMARS | to plain C | to pMARS |\n|---|---|---|---|---|---|---|")
+    for (kind, name, number), figures in found.items():
+        if kind == "run":
+            run, c, full, setting_up = figures
+            pmars = full - setting_up
+            print(f"| {name} | {number:,} | {run:.1f} | {c:.1f} | {pmars:.1f} | {run / c:.2f} | {run / pmars:.2f} |")
+    print("\n| battle | names | outer step | plain C | to plain C |\n|---|---|---|---|---|")
+    for (kind, name, number), figures in found.items():
+        if kind == "step":
+            step, c = figures
+            print(f"| {name} | {number} | {step:.1f} | {c:.1f} | {step / c:.2f} |")
+    print(f"\nload, for an instruction: {found['load', 'instruction', 8000][0]:.1f} ns\n", flush=True)
+
+
+print(text("agree", 1, 1_000_000))
+times()
+print("Instructions a step:\n\n| battle | run | plain C | pMARS |\n|---|---|---|---|")
+for i, name in enumerate(BATTLES[:4]):
+    row(name, [instructions(who, i, 60_000) for who in ["run", "plain", "pmars"]], 1)
+print("\n| battle | outer step | plain C | a call that plays nothing |\n|---|---|---|---|")
 for i, name in enumerate(BATTLES):
-    row = [per_step(pmars, i, 20_000_000), per_step(rust("rust"), i, 200_000), per_step(rust("rust-quiet"), i, 2_000_000)]
-    print(f"{name:10}", *(f"{x:8.1f}" for x in row))
-for i, name in enumerate(BATTLES):
-    counts = []
-    for who in ["run", "plain", "step", "outer", "plain-step"]:
-        total = []
-        for n in [20_000, 120_000]:
-            command = ["valgrind", "--tool=callgrind", f"--callgrind-out-file={work}/callgrind.out", f"{work}/driver", "count", who, str(i), str(n)]
-            said = subprocess.run(command, check=True, capture_output=True, text=True).stderr
-            total.append(int(said.split("Collected :")[1].split()[0]))
-        counts.append((total[1] - total[0]) / 100_000)
-    print(f"{name:10} instructions per step: run {counts[0]:.1f}, plain C {counts[1]:.1f}, ratio {counts[0] / counts[1]:.2f};", end=" ")
-    print(f"step {counts[2]:.1f}, outer {counts[3]:.1f}, plain C {counts[4]:.1f}, ratio {counts[3] / counts[4]:.2f}")
+    row(name, [instructions(who, i, 6_000) for who in ["step", "plain-step", "idle"]], 1)
+if os.path.exists(f"{work}/rust-quiet/oracle"):
+    print("\n| battle | the Rust | without its trace |\n|---|---|---|")
+    for i, name in enumerate(BATTLES[:4]):
+        row(name, [rust(f"{work}/rust/oracle", i, 200_000), rust(f"{work}/rust-quiet/oracle", i, 2_000_000)], 0)

@@ -1,5 +1,5 @@
 // The same machine written plainly in C. Cells are unpacked into a struct, places are reduced by `%`, and what
-// document 01 has checked is checked: the front entry and every cell that is read.
+// the machine has checked is checked: the front entry and every cell that is read.
 #include "plain.h"
 #include <string.h>
 
@@ -69,9 +69,9 @@ static int evaluate(uint64_t *core, uint32_t size, uint32_t pc, uint32_t mode, u
     return 1;
 }
 
-static void push(uint64_t *queue, uint32_t limit, header *h, uint32_t place, uint32_t thread, uint32_t name) {
-    queue[(h->head + h->length) % limit] = (uint64_t)name << 48 | (uint64_t)thread << 16 | place;
-    h->length++;
+static void push(uint64_t *queue, uint32_t limit, sumacadze_header_t *h, uint32_t place, uint32_t thread, uint32_t name) {
+    queue[(h->ring.head + h->ring.length) % limit] = (uint64_t)name << 48 | (uint64_t)thread << 16 | place;
+    h->ring.length++;
     h->counts[name]++;
 }
 
@@ -87,31 +87,31 @@ static uint32_t value(uint32_t opcode, uint32_t size, uint32_t a, uint32_t b) {
 }
 
 // one step: 01's order of refusals, then the instruction
-static outcome step(uint64_t *core, uint64_t *queue, uint32_t limit, header *h) {
-    outcome r = {0, 0, 0, 0};
-    uint32_t size = h->size;
-    if (h->length == 0)
-        return r.answer = 7, r;
-    uint64_t e = queue[h->head];
+static sumacadze_report_t step(uint64_t *core, uint64_t *queue, uint32_t limit, sumacadze_header_t *h) {
+    sumacadze_report_t r = {0, 0, 0, 0};
+    uint32_t size = h->rules.size;
+    if (h->ring.length == 0)
+        return r.number = 7, r;
+    uint64_t e = queue[h->ring.head];
     uint32_t pc = e & 0xffff, thread = (uint32_t)(e >> 16), name = (e >> 48) & 15;
-    if (e >> 52 || pc >= size || name >= h->held || h->counts[name] == 0)
-        return r.answer = 9, r;
+    if (e >> 52 || pc >= size || name >= h->names.held || h->counts[name] == 0)
+        return r.number = 9, r;
     if (h->steps == 0xffffffffu || h->threads[name] == 0xffffffffu)
-        return r.answer = 8, r;
+        return r.number = 8, r;
     if (!sound(core[pc], size))
-        return r.answer = 9, r;
+        return r.number = 9, r;
     cell i = unpack(core[pc]);
     if (i.opcode > 16)
-        return r.answer = 10, r;
+        return r.number = 10, r;
     operand a, b;
     if (!evaluate(core, size, pc, i.a_mode, i.number[0], &a))
-        return r.answer = 9, r;
+        return r.number = 9, r;
     if (!evaluate(core, size, pc, i.b_mode, unpack(core[pc]).number[1], &b)) {
         core[a.location] = a.old;
-        return r.answer = 9, r;
+        return r.number = 9, r;
     }
-    h->head = (h->head + 1) % limit;
-    h->length--;
+    h->ring.head = (h->ring.head + 1) % limit;
+    h->ring.length--;
     h->counts[name]--;
     h->steps++;
     r.steps = 1;
@@ -146,13 +146,13 @@ static outcome step(uint64_t *core, uint64_t *queue, uint32_t limit, header *h) 
     switch (i.opcode) {
     case 0:
         if (h->counts[name] == 0)
-            r.answer = 11, r.place = pc;
+            r.number = 11, r.value = pc;
         return r;
     case 5:
     case 6:
         if (some_zero) {
             if (h->counts[name] == 0)
-                r.answer = 12;
+                r.number = 12;
             return r;
         }
         break;
@@ -169,63 +169,68 @@ static outcome step(uint64_t *core, uint64_t *queue, uint32_t limit, header *h) 
     case 14: if (below) next = (pc + 2) % size; break;
     }
     push(queue, limit, h, next, thread, name);
-    if (i.opcode == 15 && h->length < limit)
+    if (i.opcode == 15 && h->ring.length < limit)
         push(queue, limit, h, a.pointer, h->threads[name]++, name);
     return r;
 }
 
 // the names are valid, not empty and unlike the others, and their counts sum to the length
-static int sound_names(const header *h) {
+static int sound_names(const sumacadze_header_t *h) {
     uint64_t sum = 0;
-    for (uint32_t i = 0; i < h->held; i++) {
-        const uint8_t *name = h->names + 32 * i;
-        if (h->lengths[i] < 1 || h->lengths[i] > 32)
+    for (uint32_t i = 0; i < h->names.held; i++) {
+        const uint8_t *name = h->names.bytes + 32 * i;
+        if (h->names.lengths[i] < 1 || h->names.lengths[i] > 32)
             return 0;
-        for (uint32_t k = 0; k < h->lengths[i]; k++)
+        for (uint32_t k = 0; k < h->names.lengths[i]; k++)
             if (name[k] < 33 || name[k] > 126)
                 return 0;
         for (uint32_t k = 0; k < i; k++)
-            if (h->lengths[k] == h->lengths[i] && !memcmp(h->names + 32 * k, name, h->lengths[i]))
+            if (h->names.lengths[k] == h->names.lengths[i] && !memcmp(h->names.bytes + 32 * k, name, h->names.lengths[i]))
                 return 0;
         sum += h->counts[i];
     }
-    return sum == h->length;
+    return sum == h->ring.length;
 }
 
-outcome plain_step(uint64_t *core, uint32_t m, uint64_t *queue, uint32_t limit, header *h) {
-    if (h->size < 1 || h->size > 46341 || h->size != m || limit < 1 || limit > 65535 || h->length > limit ||
-        h->head >= limit || h->held > 16 || !sound_names(h))
-        return (outcome){9, 0, 0, 0};
+static int sound_header(size_t m, size_t limit, const sumacadze_header_t *h) {
+    return h->rules.size >= 1 && h->rules.size <= 46341 && h->rules.size == m && limit >= 1 && limit <= 65535 &&
+           h->ring.length <= limit && h->ring.head < limit && h->names.held <= 16 && sound_names(h);
+}
+
+sumacadze_report_t plain_step(uint64_t *core, size_t m, uint64_t *queue, size_t limit, sumacadze_header_t *h) {
+    if (!sound_header(m, limit, h))
+        return (sumacadze_report_t){9, 0, 0, 0};
     return step(core, queue, limit, h);
 }
 
-outcome plain_run(uint64_t *core, uint64_t *queue, uint32_t limit, header *h, uint64_t ceiling) {
-    outcome all = {0, 0, 0, 0};
-    while (h->steps < ceiling) {
-        outcome r = step(core, queue, limit, h);
-        all.answer = r.answer;
-        all.place = r.place;
+sumacadze_report_t plain_run(uint64_t *core, size_t m, uint64_t *queue, size_t limit, sumacadze_header_t *h, bool said,
+                             uint64_t ceiling) {
+    if (!sound_header(m, limit, h))
+        return (sumacadze_report_t){9, 0, 0, 0};
+    sumacadze_report_t all = {0, 0, 0, 0};
+    while (h->steps < (said ? ceiling : 10000) && !all.number) {
+        sumacadze_report_t r = step(core, queue, limit, h);
+        all.number = r.number;
+        all.value = r.value;
         all.writes += r.writes;
         all.steps += r.steps;
-        if (r.answer)
-            break;
     }
     return all;
 }
 
-header plain_fresh(uint32_t size, uint64_t *core, uint64_t *queue, uint32_t limit) {
-    header h;
+sumacadze_header_t plain_fresh(uint32_t size, uint64_t *core, uint64_t *queue, uint32_t limit) {
+    sumacadze_header_t h;
     memset(&h, 0, sizeof h);
-    h.size = size;
+    h.rules.size = size;
     for (uint32_t i = 0; i < size; i++)
         core[i] = (uint64_t)4 << 38 | (uint64_t)1 << 35 | (uint64_t)1 << 32;
     memset(queue, 0, limit * sizeof *queue);
     return h;
 }
 
-void plain_start(uint64_t *queue, uint32_t limit, header *h, const char *name, uint32_t place) {
-    uint32_t k = h->held++;
-    h->lengths[k] = (uint8_t)strlen(name);
-    memcpy(h->names + 32 * k, name, h->lengths[k]);
+void plain_start(uint64_t *queue, uint32_t limit, sumacadze_header_t *h, const char *name, uint32_t place) {
+    uint32_t k = h->names.held++;
+    h->names.lengths[k] = (uint8_t)strlen(name);
+    memcpy(h->names.bytes + 32 * k, name, h->names.lengths[k]);
     push(queue, limit, h, place, h->threads[k]++, k);
 }

@@ -1,38 +1,36 @@
 #!/bin/sh
-# run.sh SOURCES WORK: builds the proved library, the plain C, pMARS and the Rust (its sources at SOURCES) in the folder WORK, and measures.
-# Needs rt, gcc, python3, and what tools/pmars/build.sh and tools/oracle/build.sh need.
+# run.sh WORK [SOURCES]: builds the library here, and in the folder WORK pMARS and the driver, and measures.
+# With the Rust's sources, the Rust too, as it is and without the line that a step writes to standard error.
+# Needs rt, gcc, python3, valgrind and what tools/pmars/build.sh needs; for the Rust what tools/oracle/build.sh needs.
 set -eu
 here=$(cd "$(dirname "$0")" && pwd)
-sources=$(cd "$1" && pwd)
-mkdir -p "$2"
-work=$(cd "$2" && pwd)
+mkdir -p "$1"
+work=$(cd "$1" && pwd)
+sources=${2:+$(cd "$2" && pwd)}
 
-# the library: a copy of the crates, with the exported calls as one more
-mkdir -p "$work/repository"
-cd "$work/repository"
-rm -rf crates
-cp -R "$here/../crates" "$here/../crates.txt" .
-mkdir -p crates/bench/src crates/bench/proofs/bench_steps
-cp "$here/exports.rt.txt" crates/bench/src/lib.rt
-cp "$here/bench_steps.antt.txt" crates/bench/proofs/bench_steps/Proof.antt
-echo "bench: answer cycle machine sim soundness warrior" >> crates.txt
-rt staticlib bench
+cd "$here/.."
 rt staticlib sumacadze
-gcc -O3 -Wall -I"$here/../include" -o "$work/driver" "$here/driver.c" "$here/plain.c" target/staticlib/libbench.a target/staticlib/libsumacadze.a
 
-# pMARS without a display, its build for tournaments
-sh "$here/../tools/pmars/build.sh" "$work/pmars"
-cd "$work/pmars/source/src"
-gcc -O3 -std=gnu89 -fcommon -w -DEXT94 -DPERMUTATE -DSERVER -o "$work/pmars-server" \
-    pmars.c asm.c eval.c disasm.c cdb.c sim.c pos.c clparse.c global.c token.c str_eng.c
+# pMARS' loop, as in its build for tournaments, and our glue
+sh tools/pmars/build.sh "$work/pmars"
+pmars=$work/pmars/source/src
+mkdir -p "$work/objects"
+for part in sim pos global str_eng; do
+    gcc -O3 -std=gnu89 -fcommon -w -DEXT94 -DPERMUTATE -DSERVER -c -o "$work/objects/$part.o" "$pmars/$part.c"
+done
+gcc -O3 -Wall -fcommon -DEXT94 -DPERMUTATE -DSERVER -isystem "$pmars" -c -o "$work/objects/pmars.o" bench/pmars.c
 
-# the Rust as it is, and without the line that a step writes to standard error
-export CARGO_PROFILE_RELEASE_OVERFLOW_CHECKS=false
-sh "$here/../tools/oracle/build.sh" "$sources" "$work/rust"
-rm -rf "$work/quiet-sources"
-cp -R "$sources" "$work/quiet-sources"
-chmod -R u+w "$work/quiet-sources"
-python3 "$here/quiet.py" "$work/quiet-sources/corewars-sim/src/core.rs"
-sh "$here/../tools/oracle/build.sh" "$work/quiet-sources" "$work/rust-quiet"
+gcc -O3 -Wall -Iinclude -o "$work/driver" bench/driver.c bench/records.c bench/battles.c bench/plain.c "$work"/objects/*.o \
+    target/staticlib/libsumacadze.a
 
-python3 "$here/measure.py" "$work"
+if [ -n "$sources" ]; then
+    export CARGO_PROFILE_RELEASE_OVERFLOW_CHECKS=false
+    sh tools/oracle/build.sh "$sources" "$work/rust"
+    rm -rf "$work/quiet-sources"
+    cp -R "$sources" "$work/quiet-sources"
+    chmod -R u+w "$work/quiet-sources"
+    python3 bench/quiet.py "$work/quiet-sources/corewars-sim/src/core.rs"
+    sh tools/oracle/build.sh "$work/quiet-sources" "$work/rust-quiet"
+fi
+
+python3 bench/measure.py "$work"
