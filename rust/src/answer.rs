@@ -1,6 +1,6 @@
-//! What a call gives back: document 01's table.
+//! What a call gives back: the table of docs/MACHINE.md.
 
-/// An answer of document 01, with the value that is given with it.
+/// An answer, with the value that is given with it.
 #[derive(Clone, Copy, Debug, PartialEq, Eq)]
 pub enum Answer {
     Done,
@@ -23,7 +23,7 @@ pub enum Answer {
 }
 
 impl Answer {
-    /// The answer of a number and its value. A number that document 01 does not have is not this library's: it panics.
+    /// The answer of a number and its value. A number that the table does not have is not this library's: it panics.
     pub(crate) fn of(number: u8, value: usize) -> Answer {
         match number {
             0 => Answer::Done,
@@ -44,7 +44,7 @@ impl Answer {
         }
     }
 
-    /// Document 01's number.
+    /// Its number in that table.
     pub fn number(self) -> u8 {
         match self {
             Answer::Done => 0,

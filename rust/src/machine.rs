@@ -49,7 +49,7 @@ pub struct Report {
     pub steps: u64,
 }
 
-/// An instruction of the core, in document 01's numbers.
+/// An instruction of the core, in the numbers of docs/MACHINE.md.
 #[derive(Clone, Copy, Debug, PartialEq, Eq)]
 pub struct Cell {
     pub opcode: u8,

@@ -1,4 +1,4 @@
-"""Document 01's machine and `play` in Python, written apart from the definitions and the code: what is printed for a match file."""
+"""The machine of docs/MACHINE.md and `play` in Python, written apart from the definitions and the code: what is printed for a match file."""
 import struct
 
 DEFAULTS = {0: 4, 7: 1, 8: 1, 9: 1, 10: 1, 15: 1, 16: 1}

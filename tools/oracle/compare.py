@@ -62,7 +62,7 @@ NAMES = "names (h .names)"
 RUST_DEPENDS = DEPENDS + ["account", "reference"]
 RUST_OPENED = "evaluate-a evaluate-b execute push load-warrior step run"
 PANIC = 14
-# its opcodes, by document 01's numbers
+# its opcodes, by the numbers of docs/MACHINE.md
 RUST_OPCODES = [2, 10, 0, 18, 11, 3, 9, 6, 7, 5, 4, 1, 13, 15, 14, 16, 12, 8, 17]
 
 # the theorems' modules

@@ -1,4 +1,4 @@
-//! Looks at the private state of a core, and gives a call's result as number and value of document 01's table.
+//! Looks at the private state of a core, and gives a call's result as number and value of the table in docs/MACHINE.md.
 //! It stands below process.rs, from where the fields of the core and of its queue are both in sight.
 
 use std::collections::{BTreeMap, VecDeque};

@@ -1,4 +1,4 @@
-//! Document 01's numbers for opcodes, modifiers and modes, its words of a cell and of a queue entry, and a digest of words.
+//! The machine's numbers (docs/MACHINE.md) for opcodes, modifiers and modes, its words of a cell and of a queue entry, and a digest of words.
 
 use oracle::load_file::{AddressMode, Instruction, Modifier, Opcode};
 
