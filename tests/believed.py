@@ -27,7 +27,7 @@ def crates():
 
 def is_list(file):
     """Whether a file only lists modules."""
-    return all(l.startswith(("pub mod ", "mod ")) for l in file.read_text().splitlines() if l)
+    return all(l.startswith(("pub mod ", "mod ", "--")) for l in file.read_text().splitlines() if l)
 
 
 def module_file(crate, path):

@@ -13,13 +13,13 @@ use Rattle.answer.specs.declared.Answer.the-variants.{Done, WarriorTooLong, Inv
 use Rattle.answer.specs.Numbers.{told}
 use Rattle.program.specs.Program.{instructions, lowestFault}
 use Rattle.metadata.specs.Metadata.{validName, called}
-use Rattle.machine.specs.State.{Machine, accepted, refusal, first}
+use Rattle.machine.specs.State.{Machine, accepted, refusal, first, verdictTold}
 use Rattle.machine.specs.Names.{slot, isNew, seventeenth}
 use Rattle.machine.specs.Queue.{full}
 use Rattle.machine.specs.Soundness.{soundHeader}
 use Rattle.machine.specs.Load.{loadChecks}
 use Rattle.machine.proofs.Soundness.{tested}
-use Rattle.load_checks.specs.Refusal.{toldOf, loadTold}
+use Rattle.load_checks.specs.Refusal.{loadTold}
 use Rattle.load_checks.proofs.Index.{slot-le, new-is, six, eight}
 
 pub called-is : (name : List ℕ) → 0 < length name → called name ≡ name
@@ -93,18 +93,18 @@ module _ (m : Machine) (name body : List ℕ) (place : ℕ) where
                     let e : i ≡ slot (m .header .names) name = index-is in
                     let l : slot (m .header .names) name ≤ m .header .names .held = slot-le (m .header) name in
                     let f : m .header .names .held ≤ 16 = few in
-                    ap toldOf {x = refusal 6 0}
+                    ap verdictTold {x = refusal 6 0}
                     (sym (reached ∙ simp (new-is (m .header) name index-is, eq-eqb i (m .header .names .held) (omega arith), eq-eqb (m .header .names .held) 16 (omega arith))))
 
                 module _ (free : i < 16) where
                   pub no-number : (ltb i (m .header .names .held) && eqb (getD (m .header .threads) i 0) 4294967295) ≡ true → Gives NumbersExhausted
                   unfolding loadTold
                   no-number e =
-                      ap toldOf {x = refusal 8 0} (sym (reached ∙ simp (six (m .header) name index-is free, eight (m .header) name index-is ∙ e)))
+                      ap verdictTold {x = refusal 8 0} (sym (reached ∙ simp (six (m .header) name index-is free, eight (m .header) name index-is ∙ e)))
 
                   pub passed : (ltb i (m .header .names .held) && eqb (getD (m .header .threads) i 0) 4294967295) ≡ false → Gives Done
                   unfolding loadTold
-                  passed e = ap toldOf {x = accepted} (sym (reached ∙ simp (six (m .header) name index-is free, eight (m .header) name index-is ∙ e)))
+                  passed e = ap verdictTold {x = accepted} (sym (reached ∙ simp (six (m .header) name index-is free, eight (m .header) name index-is ∙ e)))
 
 -- an empty name is Warrior0
 pub unnamed-told : (m : Machine) (name body : List ℕ) (place : ℕ) → length name ≡ 0

@@ -89,3 +89,8 @@ passes cs = every (λ c. not (c .applies)) cs
 abbrev pub settle : Verdict → Machine → Outcome → Outcome
 settle accepted m o = o
 settle (refusal n v) m o = record { machine = m; number = n; value = v; writes = 0; steps = 0; pushes = 0 }
+
+-- what a verdict tells: the number and value of the row that applies, 0 where none does
+abbrev pub verdictTold : Verdict → Told
+verdictTold accepted = gives 0 0
+verdictTold (refusal n v) = gives n v

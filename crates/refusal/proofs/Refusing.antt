@@ -14,7 +14,7 @@ use Rattle.cell.specs.Cells.{soundWord}
 use Rattle.machine.specs.declared.Ring.{Ring}
 use Rattle.machine.specs.declared.Roster.{Roster}
 use Rattle.machine.specs.declared.Rules.{Rules}
-use Rattle.machine.specs.State.{Machine, Verdict, accepted, refusal, passes, first}
+use Rattle.machine.specs.State.{Machine, Verdict, accepted, refusal, passes, first, verdictTold}
 use Rattle.machine.specs.Queue.{front}
 use Rattle.machine.specs.Soundness.{freshChecks, soundHeader, soundEntry, soundFront}
 use Rattle.machine.specs.Pointers.{siteAt}
@@ -26,7 +26,7 @@ use Rattle.lent.specs.Parts.{parts, unnamed}
 use Rattle.address.specs.inner.Operands.{private}
 use Rattle.address.proofs.Evaluation.{over-private, few-public}
 use Rattle.refusal.specs.inner.Looking.{soundSeen, cellChecks}
-use Rattle.refusal.specs.Checks.{within, toldOf, refused}
+use Rattle.refusal.specs.Checks.{within, refused}
 
 -- the instruction at a place
 module _ (rules : Rules) (core : List ℕ) (pc : ℕ) where
@@ -34,7 +34,7 @@ module _ (rules : Rules) (core : List ℕ) (pc : ℕ) where
   size = rules .size
 
   abbrev there : Told
-  there = toldOf (first (cellChecks (siteAt rules pc) core))
+  there = verdictTold (first (cellChecks (siteAt rules pc) core))
 
   pub unsound-cell : soundWord size (getD core pc 0) ≡ false → gives 9 0 ≡ there
   unsound-cell e = simp e
@@ -106,7 +106,7 @@ module _ (m : Machine) where
               let u = eq-eqb (getD (m .header .threads) (popped m .name) 0) 4294967295 e in
               simp (w, z, s, t, u)
 
-          pub by-cell : (getD (m .header .threads) (popped m .name) 0 ≡ 4294967295 → ⊥) → {t : Told} → t ≡ toldOf (first (cellChecks (site m) (m .core))) → t ≡ refused m
+          pub by-cell : (getD (m .header .threads) (popped m .name) 0 ≡ 4294967295 → ⊥) → {t : Told} → t ≡ verdictTold (first (cellChecks (site m) (m .core))) → t ≡ refused m
           unfolding refused
           by-cell n e =
               let z = not-empty in
@@ -122,7 +122,7 @@ module _ (m : Machine) where
       let b = lt-ltb (m .header .ring .head) (length (m .queue)) (t .head) in
       simp (a, b)
 
-  pub as-a-step : soundHeader m ≡ true → refused m ≡ toldOf (first (stepChecks m))
+  pub as-a-step : soundHeader m ≡ true → refused m ≡ verdictTold (first (stepChecks m))
   unfolding refused
   as-a-step e = let w = within-sound e in simp (e, w)
 
@@ -130,7 +130,7 @@ module _ (m : Machine) where
   pub goes-on : soundHeader m ≡ true → refused m ≡ gives 0 0 → first (stepChecks m) ≡ accepted
   goes-on s e = go (first (stepChecks m)) refl (ap (λ (t : Told). t .number) (sym (as-a-step s) ∙ e))
     where
-      go : (v : Verdict) → first (stepChecks m) ≡ v → toldOf v .number ≡ 0 → first (stepChecks m) ≡ accepted
+      go : (v : Verdict) → first (stepChecks m) ≡ v → verdictTold v .number ≡ 0 → first (stepChecks m) ≡ accepted
       go accepted f z = f
       go (refusal n v) f z =
           absurd (number-of (λ n. n ≡ 0 → ⊥) (stepChecks m) (other tt and other tt and other tt and other tt and other tt and other tt and other tt and tt) n v f z)
@@ -138,7 +138,7 @@ module _ (m : Machine) where
   pub stops : soundHeader m ≡ true → {n v : ℕ} → gives n v ≡ refused m → (n ≡ 0 → ⊥) → first (stepChecks m) ≡ refusal n v
   stops s {n} {v} e x = go (first (stepChecks m)) refl (e ∙ as-a-step s)
     where
-      go : (w : Verdict) → first (stepChecks m) ≡ w → gives n v ≡ toldOf w → first (stepChecks m) ≡ refusal n v
+      go : (w : Verdict) → first (stepChecks m) ≡ w → gives n v ≡ verdictTold w → first (stepChecks m) ≡ refusal n v
       go accepted f z = absurd (x (ap (λ (t : Told). t .number) z))
       go (refusal a b) f z = f ∙ sym (ap (λ (t : Told). refusal (t .number) (t .value)) z)
 

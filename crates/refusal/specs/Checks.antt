@@ -4,8 +4,8 @@ use mathlib.Core.Bool.{Bool, not, _&&_}
 use mathlib.Core.List.{List, _∷_}
 use lib.Dec.{ltb}
 use lib.ListN.{length}
-use Rattle.answer.specs.Numbers.{Told, gives}
-use Rattle.machine.specs.State.{Machine, Check, check, Verdict, accepted, refusal, first, passes}
+use Rattle.answer.specs.Numbers.{Told}
+use Rattle.machine.specs.State.{Machine, Check, check, first, passes, verdictTold}
 use Rattle.machine.specs.Soundness.{freshChecks}
 use Rattle.machine.specs.Step.{nextChecks}
 
@@ -17,11 +17,6 @@ within m = passes (freshChecks (m .header .rules) (m .core) (m .queue)) && ltb (
 abbrev pub refusalChecks : Machine → List Check
 refusalChecks m = check (not (within m)) 9 ∷ nextChecks m
 
--- the number of the row and its value; 0 where none applies
-abbrev pub toldOf : Verdict → Told
-toldOf accepted = gives 0 0
-toldOf (refusal n v) = gives n v
-
--- the first that applies
+-- the first that applies, 0 where none does
 unfoldable pub refused : Machine → Told
-refused m = toldOf (first (refusalChecks m))
+refused m = verdictTold (first (refusalChecks m))

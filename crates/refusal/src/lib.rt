@@ -5,12 +5,12 @@ ghost use Prim.Native.Nat.{_<_, _≤_};
 ghost use lib.ListN.{length, getD};
 ghost use Rattle.answer.specs.Numbers.{told};
 ghost use Rattle.cell.specs.Cells.{soundWord, store};
-ghost use Rattle.machine.specs.State.{first};
+ghost use Rattle.machine.specs.State.{first, verdictTold};
 ghost use Rattle.machine.specs.Pointers.{siteAt};
 ghost use Rattle.lent.specs.Parts.{unnamed};
 ghost use Rattle.address.specs.inner.Operands.{Ready, Fetched};
 ghost use Rattle.refusal.specs.inner.Looking.{Looks, soundSeen, cellChecks};
-ghost use Rattle.refusal.specs.Checks.{toldOf, refused};
+ghost use Rattle.refusal.specs.Checks.{refused};
 use address::aim;
 use answer::Answer;
 use cell::sound;
@@ -139,7 +139,7 @@ fn readable(core: &[u64], rules: Rules, pc: Absolute, here: u64) -> bool
 // The refusal of the instruction at a place: 9, 10, 9.
 fn cell_refusal(core: &[u64], rules: Rules, pc: Absolute) -> Answer
     requires { ⌜ (rules .size ≤ 46341) × (length (now core) ≡ rules .size) × (pc .0 < rules .size) ⌝ }
-    ensures { λ r. ⌜ told r ≡ toldOf (first (cellChecks (siteAt rules (pc .0)) (now (core .entry)))) ⌝ }
+    ensures { λ r. ⌜ told r ≡ verdictTold (first (cellChecks (siteAt rules (pc .0)) (now (core .entry)))) ⌝ }
 {
     let at = pc.0 as usize;
     let here = core[at];

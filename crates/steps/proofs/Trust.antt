@@ -14,7 +14,7 @@ use Rattle.laws.proofs.Every.{_and_, every-passes, every-weaker}
 use Rattle.answer.specs.declared.Answer.{Answer}
 use Rattle.answer.specs.Numbers.{Told, told}
 use Rattle.machine.specs.declared.Ceiling.the-variants.{Steps}
-use Rattle.machine.specs.State.{Machine, Verdict, accepted, refusal, first, settle}
+use Rattle.machine.specs.State.{Machine, Verdict, accepted, refusal, first, settle, verdictTold}
 use Rattle.machine.specs.Queue.{entries}
 use Rattle.machine.specs.Soundness.{soundEntry}
 use Rattle.machine.specs.Step.{nextChecks, stepChecks, executed, step}
@@ -24,7 +24,7 @@ use Rattle.machine.proofs.Soundness.{sound-header}
 use Rattle.machine.proofs.Step.{step-by-cases, step-writes-three}
 use Rattle.machine.proofs.Run.{run-one}
 use Rattle.lent.specs.Given.{given, givenBy}
-use Rattle.refusal.specs.Checks.{within, toldOf, refused}
+use Rattle.refusal.specs.Checks.{within, refused}
 use Rattle.refusal.proofs.Refusing.{as-a-step}
 use Rattle.scan.specs.Scanning.{scanned}
 use Rattle.scan.proofs.Trusting.{Trusted, scan-trusts, trusted-refusal, trusted-step}
@@ -90,7 +90,7 @@ module _ (m : Machine) (r : Ready m) (answer : Answer) (asked : told answer ≡ 
   within-is : within m ≡ true
   within-is = let t = r .taken in let h = lt-ltb _ _ (r .head) in simp (t, h)
 
-  verdict-is : told answer ≡ toldOf (first (nextChecks m))
+  verdict-is : told answer ≡ verdictTold (first (nextChecks m))
   unfolding refused
   verdict-is = let w = within-is in asked ∙ simp w
 
@@ -98,7 +98,7 @@ module _ (m : Machine) (r : Ready m) (answer : Answer) (asked : told answer ≡ 
   not-refused e =
       record {
         only = λ n v f.
-            let z : n ≡ 0 = sym (ap (λ (t : Told). t .number) (verdict-is ∙ ap toldOf f)) ∙ eqb-true (told answer .number) 0 e in
+            let z : n ≡ 0 = sym (ap (λ (t : Told). t .number) (verdict-is ∙ ap verdictTold f)) ∙ eqb-true (told answer .number) 0 e in
             absurd
             (number-of (λ k. k ≡ 0 → ⊥) (nextChecks m)
             ((λ q. omega arith) and (λ q. omega arith) and (λ q. omega arith) and (λ q. omega arith) and (λ q. omega arith) and (λ q. omega arith) and tt) n v f z);
@@ -115,11 +115,11 @@ module _ (m : Machine) (r : Ready m) (answer : Answer) (asked : told answer ≡ 
         beside = λ b l s. go (naming b l m) (first (stepChecks (naming b l m))) refl (asked ∙ refused-beside b l ∙ as-a-step (naming b l m) (s .header));
       }
     where
-      go : (x : Machine) (v : Verdict) → first (stepChecks x) ≡ v → told answer ≡ toldOf (first (stepChecks x)) → given (told answer) 0 0 x ≡ givenBy (step x)
+      go : (x : Machine) (v : Verdict) → first (stepChecks x) ≡ v → told answer ≡ verdictTold (first (stepChecks x)) → given (told answer) 0 0 x ≡ givenBy (step x)
       go x accepted f t =
-          absurd (true≢false (sym (ap (λ (k : Told). eqb (k .number) 0) (t ∙ ap toldOf f)) ∙ e))
+          absurd (true≢false (sym (ap (λ (k : Told). eqb (k .number) 0) (t ∙ ap verdictTold f)) ∙ e))
       go x (refusal n v) f t =
-          ap (λ (k : Told). record { told = k; writes = 0; steps = 0; machine = x }) (t ∙ ap toldOf f) ∙ ap (λ (w : Verdict). givenBy (settle w x (executed x))) (sym f)
+          ap (λ (k : Told). record { told = k; writes = 0; steps = 0; machine = x }) (t ∙ ap verdictTold f) ∙ ap (λ (w : Verdict). givenBy (settle w x (executed x))) (sym f)
 
 -- a run up to one step more is a step
 pub as-step : (m : Machine) {answer : Answer} {writes steps : ℕ} {n : Machine} → Gives (run (Steps (m .header .steps + 1))) m answer writes steps n → Gives step m answer writes steps n

@@ -1,3 +1,4 @@
+-- Inner definitions: no promise of a public function and no demand reaches them.
 pub mod Instruction
 pub mod Acts
 pub mod Turn

@@ -286,7 +286,7 @@ fn skips(
     Executed::Goes(next, w)
 }
 
-// The nineteen opcodes, after both operands, which made w writes. LDP and STP are refused before.
+// The nineteen opcodes, after both operands, which made w writes. LDP and STP are refused before: the last two arms are never reached.
 pub(crate) fn act(
     core: &mut [u64],
     size: u32,

@@ -22,7 +22,7 @@ use Rattle.metadata.proofs.Names.{valid-name}
 use Rattle.machine.specs.declared.Header.{Header}
 use Rattle.machine.specs.declared.Ring.{Ring}
 use Rattle.machine.specs.declared.Roster.{Roster}
-use Rattle.machine.specs.State.{Machine, under, withCore, Verdict, accepted, refusal, first, settle}
+use Rattle.machine.specs.State.{Machine, under, withCore, Verdict, accepted, refusal, first, settle, verdictTold}
 use Rattle.machine.specs.Names.{slot, isNew, seventeenth, register, registered, numbered}
 use Rattle.machine.specs.Queue.{push, started}
 use Rattle.machine.specs.Load.{placed, originOf, loadChecks, loaded, load}
@@ -32,7 +32,7 @@ use Rattle.machine.proofs.Load.{loadable}
 use Rattle.lent.specs.Parts.{namedOf, queueOf, startIf, registerIf, machineOf}
 use Rattle.queue.proofs.Rings.{inside, room}
 use Rattle.lent.specs.Given.{Given, given, givenBy}
-use Rattle.load_checks.specs.Refusal.{toldOf, loadTold}
+use Rattle.load_checks.specs.Refusal.{loadTold}
 use Rattle.load_checks.proofs.Index.{slot-le, new-is, not-six, eight}
 use Rattle.load_checks.proofs.Checking.{called-is}
 use Rattle.warrior.specs.inner.Accepted.{placedIf, Accepted}
@@ -150,9 +150,9 @@ module _ (m : Machine) (name body : List ℕ) (place i : ℕ) (a : Accepted m na
 
 -- what the checks answered, told by a number
 module _ (m : Machine) (name body : List ℕ) (place : ℕ) {t : Told} (et : t ≡ loadTold m name body place) {r : ℕ} (er : r ≡ t .number) where
-  number-in : (v : Verdict) → first (loadChecks m name body place) ≡ v → r ≡ toldOf v .number
+  number-in : (v : Verdict) → first (loadChecks m name body place) ≡ v → r ≡ verdictTold v .number
   unfolding loadTold
-  number-in v e = er ∙ ap (λ (x : Told). x .number) (et ∙ ap toldOf e)
+  number-in v e = er ∙ ap (λ (x : Told). x .number) (et ∙ ap verdictTold e)
 
   -- a refusal
   pub refused-is : (origin : ℕ) → (r ≡ 0 → ⊥) → given t 0 0 m ≡ givenBy (load m name body origin place)
@@ -162,7 +162,7 @@ module _ (m : Machine) (name body : List ℕ) (place : ℕ) {t : Told} (et : t �
       go : (v : Verdict) → first (loadChecks m name body place) ≡ v → given t 0 0 m ≡ givenBy (load m name body origin place)
       go accepted e = absurd (z (number-in accepted e))
       go (refusal n w) e =
-          ap (λ (x : Told). given x 0 0 m) (et ∙ ap toldOf e)
+          ap (λ (x : Told). given x 0 0 m) (et ∙ ap verdictTold e)
           ∙ ap (λ (v : Verdict). givenBy (settle v m (loaded m (called name) body origin place))) {x = refusal n w} (sym e)
 
   -- none
