@@ -15,6 +15,7 @@ use Rattle.program.specs.Program.{instructions, cells}
 use Rattle.metadata.specs.Metadata.{called}
 use Rattle.program.proofs.Program.{cells-le}
 use Rattle.machine.specs.declared.Ceiling.{Ceiling}
+use Rattle.machine.specs.declared.Roster.{Roster}
 use Rattle.machine.specs.declared.Rules.{Rules}
 use Rattle.machine.specs.State.{Machine, Outcome, joined, accepted, refusal, settle}
 use Rattle.machine.specs.Names.{isNew}
@@ -94,7 +95,7 @@ after-step m o w log i sound e s three core =
         writes = let a = i .account .writes in omega arith;
         bound = let a = i .account .bound in let b = e .steps in omega arith;
         cells = let a = i .account .cells in let b : differing (o .machine .core) ≡ differing (coreAfter m) = ap differing (e .core) in omega arith;
-        names = λ n. e .names n ∙ i .account .names n ∙ ap (λ (k : ℕ). eqb k 0) (sym (zero-add (tally (loadOf n) log)));
+        names = λ n. ap (λ (ns : Roster). isNew ns n) (e .names) ∙ i .account .names n ∙ ap (λ (k : ℕ). eqb k 0) (sym (zero-add (tally (loadOf n) log)));
         idle = λ n. idle m (o .machine) t w (o .writes) log i n (o .pushes) (e .pushes) (s .had n) (s .entries n);
         others = λ n z. others m (o .machine) t w (o .writes) log i n (o .pushes) (e .pushes) (s .had n) (s .entries n) (omega arith);
       };

@@ -1,16 +1,16 @@
 -- Laws of one operand: what the machine's operand is, by the mode's range, from what the code finds; what it keeps.
 -- Assumes nothing.
 use mathlib.Core.Path.{_≡_, refl, sym, ap, _∙_}
-use mathlib.Core.Bool.{Bool, true, false, _&&_}
+use mathlib.Core.Bool.{Bool, true, false, _&&_, cond}
 use mathlib.Core.List.{List, [], _∷_}
-use Prim.Native.Nat.{ℕ, zero, suc, _+_, _%_, _≤_, _<_, zero-le}
-use native.Mathlib.Nat.{mod-zero, add-zero}
+use Prim.Native.Nat.{ℕ, zero, suc, _+_, _-_, _%_, _≤_, _<_, zero-le}
 use native.Mathlib.Omega.{arith}
 use lib.Dec.{eqb, ltb}
 use lib.ListN.{length, getD, set, length-set, List·getD-eq-default}
 use lib.Seq.{getD-set-same, getD-set-other}
 use borrow.Author.Tests.{eqb-true, eqb-false, ltb-true, ltb-false}
 use Rattle.laws.proofs.Cases.{span}
+use Rattle.laws.proofs.Modulo.{mod-small, mod-wrap}
 use Rattle.laws.proofs.Tests.{both, and-true}
 use Rattle.offset.specs.Offset.{ahead}
 use Rattle.types.specs.Types.{Field, A}
@@ -20,8 +20,9 @@ use Rattle.machine.specs.declared.Rules.{Rules}
 use Rattle.machine.specs.Pointers as machine
 use Rattle.machine.specs.Pointers.{Reach, here, there, through, Shift, keeps, lowers, raises, reaches, shifts, fieldOf, less, more, used, pointerOf, changed, before, after, shifted, siteAt, operand}
 use Rattle.word.specs.Words.{fieldBy}
+use Rattle.address.specs.Rounding.{decremented, incremented, aimed}
 use Rattle.address.specs.inner.Operands.{soundSeen, Ready}
-use Rattle.word.proofs.Cells.{ahead-below, whole, with-sound}
+use Rattle.word.proofs.Cells.{ahead-below, whole, number-below, with-sound}
 
 -- the modes by range
 pub goes-through : (mode : ℕ) → 2 ≤ mode → mode < 8 → getD reaches mode here ≡ through (fieldBy (mode % 2))
@@ -36,22 +37,48 @@ shift-lowers mode l h = span mode 4 2 l h (λ e. rw e, (λ e. rw e, tt))
 pub shift-raises : (mode : ℕ) → 6 ≤ mode → mode < 8 → getD shifts mode keeps ≡ raises
 shift-raises mode l h = span mode 6 2 l h (λ e. rw e, (λ e. rw e, tt))
 
+-- one less and one more, for a number below the size
+pub is-less : (size n : ℕ) → n < size → decremented size n ≡ less size n
+is-less size n h = by (eqb n 0) refl
+  where
+    by : (t : Bool) → eqb n 0 ≡ t → cond t (size - 1) (n - 1) ≡ less size n
+    by true e =
+        let z = eqb-true n 0 e in
+        let l : n + (size - 1) ≡ size - 1 = omega arith in
+        sym l ∙ mod-small (omega arith)
+    by false e =
+        let z = eqb-false n 0 e in
+        let l : n + (size - 1) - size ≡ n - 1 = omega arith in
+        sym l ∙ mod-wrap (omega arith) (omega arith)
+
+pub is-more : (size n : ℕ) → n < size → incremented size n ≡ more size n
+is-more size n h = by (ltb (n + 1) size) refl
+  where
+    by : (t : Bool) → ltb (n + 1) size ≡ t → cond t (n + 1) 0 ≡ more size n
+    by true e = mod-small (ltb-true (n + 1) size e)
+    by false e =
+        let g = ltb-false (n + 1) size e in
+        let z : n + 1 - size ≡ 0 = omega arith in
+        sym z ∙ mod-wrap g (omega arith)
+
 -- the number that the pointer is made of
-pub aimed-keeps : (size mode k : ℕ) → mode < 4 → k ≡ used (getD shifts mode keeps) size k
+pub is-used : (t : Shift) (size n : ℕ) → n < size → aimed t size n ≡ used t size n
+is-used keeps size n h = refl
+is-used lowers size n h = is-less size n h
+is-used raises size n h = refl
+
+pub aimed-keeps : (size mode k : ℕ) → mode < 4 → k ≡ aimed (getD shifts mode keeps) size k
 aimed-keeps size mode k h = rw (shift-keeps mode h)
 
-pub aimed-lowers : (size : ℕ) {r : ℕ} (mode k : ℕ) → 4 ≤ mode → mode < 6 → r ≡ less size k → r ≡ used (getD shifts mode keeps) size k
+pub aimed-lowers : (size mode k : ℕ) {r : ℕ} → 4 ≤ mode → mode < 6 → r ≡ decremented size k → r ≡ aimed (getD shifts mode keeps) size k
 aimed-lowers size mode k g h e = rw (shift-lowers mode g h) e
 
-pub aimed-nowhere : (size mode k : ℕ) → 4 ≤ mode → mode < 6 → size ≡ 0 → k ≡ used (getD shifts mode keeps) size k
-aimed-nowhere size mode k g h z = aimed-lowers size mode k g h (rw z (sym (mod-zero (k + 0) ∙ add-zero k)))
-
-pub aimed-raises : (size mode k : ℕ) → 6 ≤ mode → k ≡ used (getD shifts mode keeps) size k
+pub aimed-raises : (size mode k : ℕ) → 6 ≤ mode → k ≡ aimed (getD shifts mode keeps) size k
 aimed-raises size mode k g = by (ltb mode 8) refl
   where
-    by : (t : Bool) → ltb mode 8 ≡ t → k ≡ used (getD shifts mode keeps) size k
+    by : (t : Bool) → ltb mode 8 ≡ t → k ≡ aimed (getD shifts mode keeps) size k
     by true e = rw (shift-raises mode g (ltb-true mode 8 e))
-    by false e = ap (λ (t : Shift). used t size k) (sym (List·getD-eq-default shifts keeps (ltb-false mode 8 e)))
+    by false e = ap (λ (t : Shift). aimed t size k) (sym (List·getD-eq-default shifts keeps (ltb-false mode 8 e)))
 
 -- what holds of the value stored and of what was there holds of what is there now, at any two places
 pub on-set : {A : Type 0} (P : A → Type 0) (l : List A) (i j : ℕ) (v d : A) → P v → P (getD l j d) → P (getD (set l i v) j d)
@@ -62,18 +89,20 @@ on-set P (x ∷ xs) (suc i) zero v d p q = q
 on-set P (x ∷ xs) (suc i) (suc j) v d p q = on-set P xs i j v d p q
 
 -- a cell is sound after a sound one was stored over a sound one, just where it was
+pub still-sound : (size : ℕ) (core : List ℕ) (i j v : ℕ) → i < length core → soundWord size (getD core i 0) ≡ true → soundWord size v ≡ true
+    → soundWord size (getD (set core i v) j 0) ≡ soundWord size (getD core j 0)
+still-sound size core i j v l s h = at (eqb j i) refl
+  where
+    at : (t : Bool) → eqb j i ≡ t → soundWord size (getD (set core i v) j 0) ≡ soundWord size (getD core j 0)
+    at true e = rw (eqb-true j i e, getD-set-same core i v 0 l) (h ∙ sym s)
+    at false e = ap (soundWord size) (getD-set-other core i j v 0 (eqb-false j i e))
+
 stored-sound : (size : ℕ) (core : List ℕ) (i j v : ℕ) → i < length core → (soundWord size (getD core i 0) ≡ true → soundWord size v ≡ true)
     → (soundWord size (getD core i 0) && soundWord size (getD (set core i v) j 0)) ≡ (soundWord size (getD core i 0) && soundWord size (getD core j 0))
 stored-sound size core i j v l h = by (soundWord size (getD core i 0)) refl
   where
-    at : (t : Bool) → eqb j i ≡ t → soundWord size (getD core i 0) ≡ true → soundWord size (getD (set core i v) j 0) ≡ soundWord size (getD core j 0)
-    at true e s =
-        ap (λ (k : ℕ). soundWord size (getD (set core i v) k 0)) (eqb-true j i e) ∙ ap (soundWord size) (getD-set-same core i v 0 l) ∙ h s ∙ sym s
-        ∙ ap (λ (k : ℕ). soundWord size (getD core k 0)) (sym (eqb-true j i e))
-    at false e s = ap (soundWord size) (getD-set-other core i j v 0 (eqb-false j i e))
-
     by : (t : Bool) → soundWord size (getD core i 0) ≡ t → (t && soundWord size (getD (set core i v) j 0)) ≡ (t && soundWord size (getD core j 0))
-    by true s = at (eqb j i) refl s
+    by true s = still-sound size core i j v l s (h s)
     by false s = refl
 
 -- the decrement changes no verdict on the cells read
@@ -92,9 +121,8 @@ module _ (rules : Rules) (core : List ℕ) (pc mode n : ℕ) where
   abbrev its : machine.Operand
   its = operand (siteAt rules pc) core mode n
 
-  -- an operand that read sound cells: its pointer and register, and the core after it
+  -- an operand that reads sound cells: its pointer and register, and the core after it
   pub record Points (pointer register : ℕ) (l : List ℕ) : Type 0 where
-    pub seen : soundSeen size its ≡ true
     pub reads : its .read ≡ pointer
     pub copies : register ≡ packed (its .register)
     pub leaves : l ≡ its .core
@@ -156,39 +184,20 @@ module _ (rules : Rules) (core : List ℕ) (pc mode n : ℕ) where
   unfolding operand
   at-location e = rw e
 
-  module _ (k : Ready rules core pc n) (location : ℕ) (is : location ≡ ahead size pc n) where
-    pub bad-location : soundWord size (getD core location 0) ≡ false → soundSeen size its ≡ false
-    bad-location h =
-        let g : soundWord size (getD core (ahead size pc n) 0) ≡ false = rw is at h in
-        sound-is k _ refl ∙ simp g
+  -- a register that is the cell at the pointer
+  plainly : {pointer : ℕ} → its .read ≡ pointer → soundWord size (getD core pointer 0) ≡ true → its .register ≡ unpacked (getD core (its .read) 0)
+      → getD core pointer 0 ≡ packed (its .register)
+  plainly {pointer} e s er = sym (ap packed (er ∙ ap (λ (j : ℕ). unpacked (getD core j 0)) e) ∙ whole size (getD core pointer 0) s)
 
-    module _ (h : soundWord size (getD core location 0) ≡ true) (pointer : ℕ) where
-      -- the pointer's cell decides, once the location's is sound
-      verdict : its .read ≡ pointer → soundSeen size its ≡ soundWord size (getD core pointer 0)
-      verdict e =
-          let g : soundWord size (getD core (ahead size pc n) 0) ≡ true = rw is at h in
-          sound-is k pointer e ∙ simp g
+  pub hash : soundWord size (getD core pc 0) ≡ true → mode ≡ 0 → Points pc (getD core pc 0) core
+  hash s e = record { reads = at-pc e; copies = plainly (at-pc e) s (register-keeps shift); leaves = core-keeps shift }
+    where
+      shift : getD shifts mode keeps ≡ keeps
+      shift = rw e
 
-      assembled : {register : ℕ} {l : List ℕ} → its .read ≡ pointer → soundWord size (getD core pointer 0) ≡ true
-          → register ≡ packed (its .register) → l ≡ its .core → Points pointer register l
-      assembled e s er el = record { seen = verdict e ∙ s; reads = e; copies = er; leaves = el }
-
-      -- a register that is the cell at the pointer
-      plainly : its .read ≡ pointer → soundWord size (getD core pointer 0) ≡ true
-          → its .register ≡ unpacked (getD core (its .read) 0)
-          → getD core pointer 0 ≡ packed (its .register)
-      plainly e s er = sym (ap packed (er ∙ ap (λ (j : ℕ). unpacked (getD core j 0)) e) ∙ whole size (getD core pointer 0) s)
-
-    pub hash : soundWord size (getD core location 0) ≡ true → soundWord size (getD core pc 0) ≡ true → mode ≡ 0
-        → Points pc (getD core pc 0) core
-    hash h s e = assembled h pc (at-pc e) s (plainly h pc (at-pc e) s (register-keeps shift)) (core-keeps shift)
-      where
-        shift : getD shifts mode keeps ≡ keeps
-        shift = rw e
-
-    pub dollar : soundWord size (getD core location 0) ≡ true → mode ≡ 1
-        → Points location (getD core location 0) core
-    dollar h e = assembled h location there-is h (plainly h location there-is h (register-keeps shift)) (core-keeps shift)
+  module _ (location : ℕ) (is : location ≡ ahead size pc n) (h : soundWord size (getD core location 0) ≡ true) where
+    pub dollar : mode ≡ 1 → Points location (getD core location 0) core
+    dollar e = record { reads = there-is; copies = plainly there-is h (register-keeps shift); leaves = core-keeps shift }
       where
         shift : getD shifts mode keeps ≡ keeps
         shift = rw e
@@ -196,65 +205,70 @@ module _ (rules : Rules) (core : List ℕ) (pc mode n : ℕ) where
         there-is : its .read ≡ location
         there-is = at-location e ∙ sym is
 
-    module _ (two : 2 ≤ mode) (eight : mode < 8) (h : soundWord size (getD core location 0) ≡ true) (seen to pointer : ℕ)
-        (es : seen ≡ number (fieldBy (mode % 2)) (unpacked (getD core location 0))) (et : to ≡ used (getD shifts mode keeps) size seen)
-        (ep : pointer ≡ ahead size location to) where
+    module _ (two : 2 ≤ mode) (eight : mode < 8) (seen to pointer : ℕ) (es : seen ≡ number (fieldBy (mode % 2)) (unpacked (getD core location 0)))
+        (et : to ≡ aimed (getD shifts mode keeps) size seen) (ep : pointer ≡ ahead size location to) where
       seen-is : seen ≡ found
       seen-is = es ∙ rw (is, goes-through mode two eight)
 
+      seen-below : seen < size
+      seen-below = rw es (number-below (fieldBy (mode % 2)) size (getD core location 0) h)
+
+      uses : to ≡ used (getD shifts mode keeps) size seen
+      uses = et ∙ is-used (getD shifts mode keeps) size seen seen-below
+
       pub points : its .read ≡ pointer
       unfolding operand
-      points = rw (ep, et, seen-is, is, goes-through mode two eight)
+      points = rw (ep, uses, seen-is, is, goes-through mode two eight)
 
-      pub bad-pointer : soundWord size (getD core pointer 0) ≡ false → soundSeen size its ≡ false
-      bad-pointer s = verdict h pointer points ∙ s
+      module _ (s : soundWord size (getD core pointer 0) ≡ true) where
+        pub plain : mode < 4 → Points pointer (getD core pointer 0) core
+        plain l =
+            let t = shift-keeps mode l in
+            record { reads = points; copies = plainly points s (register-keeps t); leaves = core-keeps t }
 
-      pub plain : soundWord size (getD core pointer 0) ≡ true → mode < 4
-          → Points pointer (getD core pointer 0) core
-      plain s l =
-          let t = shift-keeps mode l in
-          assembled h pointer points s (plainly h pointer points s (register-keeps t)) (core-keeps t)
+        module _ (l : List ℕ) (word : ℕ) (el : l ≡ set core location word) where
+          pub lower : size ≤ 46341 → 4 ≤ mode → mode < 6 → word ≡ packed (withNumber (fieldBy (mode % 2)) to (unpacked (getD core location 0)))
+              → (register : ℕ) → register ≡ getD (set core location word) pointer 0
+              → Points pointer register l
+          lower v p q ew register er =
+              record {
+                reads = points;
+                copies =
+                    er ∙ ap (λ (x : List ℕ). getD x pointer 0) (sym el)
+                    ∙ sym (ap packed (register-lowers t ∙ ap (λ (j : ℕ). unpacked (getD (changed core (ahead size pc n) field (less size found)) j 0)) points ∙ ap (λ (x : List ℕ). unpacked (getD x pointer 0)) (sym lowered))
+                    ∙ whole size (getD l pointer 0) sound-there);
+                leaves = lowered ∙ core-lowers t;
+              }
+            where
+              t : getD shifts mode keeps ≡ lowers
+              t = shift-lowers mode p q
 
-      module _ (s : soundWord size (getD core pointer 0) ≡ true) (l : List ℕ) (word : ℕ) (el : l ≡ set core location word) where
-        pub lower : 4 ≤ mode → mode < 6 → word ≡ packed (withNumber (fieldBy (mode % 2)) to (unpacked (getD core location 0)))
-            → (register : ℕ) → register ≡ getD (set core location word) pointer 0
-            → Points pointer register l
-        lower p q ew register er =
-            assembled h pointer points s
-            (er ∙ ap (λ (x : List ℕ). getD x pointer 0) (sym el) ∙ sym (ap packed (register-lowers t ∙ ap (λ (j : ℕ). unpacked (getD (changed core (ahead size pc n) field (less size found)) j 0)) points ∙ ap (λ (x : List ℕ). unpacked (getD x pointer 0)) (sym lowered))
-            ∙ whole size (getD l pointer 0) sound-there))
-            (lowered ∙ core-lowers t)
-          where
-            t : getD shifts mode keeps ≡ lowers
-            t = shift-lowers mode p q
+              to-is : to ≡ less size found
+              to-is = uses ∙ rw (t, seen-is)
 
-            to-is : to ≡ less size found
-            to-is = et ∙ rw (t, seen-is)
+              lowered : l ≡ changed core (ahead size pc n) field (less size found)
+              lowered = rw (el, ew, to-is, is, goes-through mode two eight)
 
-            lowered : l ≡ changed core (ahead size pc n) field (less size found)
-            lowered = rw (el, ew, to-is, is, goes-through mode two eight)
+              sound-there : soundWord size (getD l pointer 0) ≡ true
+              sound-there =
+                  rw (el, ew)
+                  (on-set (λ (w : ℕ). soundWord size w ≡ true) core location pointer _ 0
+                  (with-sound (fieldBy (mode % 2)) size (getD core location 0) to v h (rw to-is (ahead-below _ _ seen-below))) s)
 
-            sound-there : soundWord size (getD l pointer 0) ≡ true
-            sound-there =
-                rw (el, ew)
-                (on-set (λ (w : ℕ). soundWord size w ≡ true) core location pointer _ 0
-                (with-sound (fieldBy (mode % 2)) size (getD core location 0) to (k .valid) h (rw to-is (ahead-below _ _ (k .place)))) s)
+          pub raise : 6 ≤ mode → (up : ℕ) → up ≡ incremented size seen → word ≡ packed (withNumber (fieldBy (mode % 2)) up (unpacked (getD core location 0)))
+              → (register : ℕ) → register ≡ getD core pointer 0
+              → Points pointer register l
+          raise p up eu ew register er =
+              record { reads = points; copies = er ∙ plainly points s (register-raises t); leaves = raised ∙ core-raises t }
+            where
+              t : getD shifts mode keeps ≡ raises
+              t = shift-raises mode p eight
 
-        pub raise : 6 ≤ mode → (up : ℕ) → up ≡ more size seen → word ≡ packed (withNumber (fieldBy (mode % 2)) up (unpacked (getD core location 0)))
-            → (register : ℕ) → register ≡ getD core pointer 0
-            → Points pointer register l
-        raise p up eu ew register er =
-            assembled h pointer points s (er ∙ plainly h pointer points s (register-raises t))
-            (raised ∙ core-raises t)
-          where
-            t : getD shifts mode keeps ≡ raises
-            t = shift-raises mode p eight
-
-            raised : l ≡ changed core (ahead size pc n) field (more size found)
-            raised = rw (el, ew, eu, seen-is, is, goes-through mode two eight)
+              raised : l ≡ changed core (ahead size pc n) field (more size found)
+              raised = rw (el, ew, eu ∙ is-more size seen seen-below, seen-is, is, goes-through mode two eight)
 
   -- what holds of the core, and of it with another number at the location, holds of the core after the operand
-  pub kept : (P : List ℕ → Type 0) → pc < size → P core → ((k : ℕ) → k < size → P (changed core (ahead size pc n) field k)) → P (its .core)
+  kept : (P : List ℕ → Type 0) → pc < size → P core → ((k : ℕ) → k < size → P (changed core (ahead size pc n) field k)) → P (its .core)
   unfolding operand
   kept P h p q = by (getD shifts mode keeps)
     where

@@ -1,12 +1,12 @@
 -- What a sound word is, field by field, and that what is packed of sound fields is sound.
 -- Assumes nothing.
-use mathlib.Core.Path.{_≡_, refl, sym, ap, _∙_}
-use mathlib.Core.Bool.{Bool, true, false, _&&_}
+use mathlib.Core.Path.{_≡_, ap, _∙_}
+use mathlib.Core.Bool.{true, false, _&&_}
 use Prim.Native.Nat.{ℕ, _*_, _/_, _%_, _^_, _≤_, _<_}
 use native.Mathlib.Omega.{arith}
 use lib.Dec.{eqb, leb, ltb}
 use borrow.Author.Tests.{eqb-true, leb-true, ltb-true, eq-eqb, le-leb, lt-ltb}
-use Rattle.laws.proofs.Tests.{both}
+use Rattle.laws.proofs.Tests.{both, iff, never}
 use Rattle.cell.specs.declared.Cell.{Cell}
 use Rattle.cell.specs.Cells.{packed, unpacked, legal, soundWord}
 use Rattle.cell.proofs.Words.{InRange, unpack-pack}
@@ -59,41 +59,39 @@ fields-sound size c l h =
     top : (c : Cell) → packed c / 2 ^ 46 ≡ 0
     top c = omega arith
 
--- tests of which each tells the other are one
-either-way : (a b : Bool) → (a ≡ true → b ≡ true) → (b ≡ true → a ≡ true) → a ≡ b
-either-way true b f g = sym (f refl)
-either-way false true f g = g refl
-either-way false false f g = refl
+-- a word whose B number, whose two numbers or whose modifier are too large is not sound
+pub over-b : (size w : ℕ) → size ≤ w % 2 ^ 16 → false ≡ soundWord size w
+over-b size w h = never (soundWord size w) (λ e. let f = sound-fields size w e .1 .b in omega arith)
 
--- a word's soundness, its opcode tested with the bits above it and its A number with the B number
-abbrev fourTests : ℕ → ℕ → Bool
-fourTests size w = leb (w / 2 ^ 41) 18 && leb (w / 2 ^ 38 % 2 ^ 3) 6 && ltb (w % 2 ^ 32) (size * 65536) && ltb (w % 2 ^ 16) size
+pub over-numbers : (size w : ℕ) → size * 65536 ≤ w % 2 ^ 32 → false ≡ soundWord size w
+over-numbers size w h = never (soundWord size w) (λ e. against size w h (sound-fields size w e .1 .a))
+  where
+    against : (size w : ℕ) → size * 65536 ≤ w % 2 ^ 32 → w / 2 ^ 16 % 2 ^ 16 < size → ⊥
+    against size w h a = omega arith
 
-four-told : (size w : ℕ) → soundWord size w ≡ true → fourTests size w ≡ true
-four-told size w e =
-    let f = sound-fields size w e in
-    simp (le-leb _ _ (high w (f .0) (f .1 .opcode)), le-leb _ _ (f .1 .modifier), lt-ltb _ _ (numbers size w (f .1 .a)), lt-ltb _ _ (f .1 .b))
+pub over-modifier : (size w : ℕ) → 6 < w / 2 ^ 38 % 2 ^ 3 → false ≡ soundWord size w
+over-modifier size w h = never (soundWord size w) (λ e. let f = sound-fields size w e .1 .modifier in omega arith)
+
+-- where they are not, its opcode decides, tested with the bits above it
+pub opcode-decides : (size w : ℕ)
+    → w % 2 ^ 16 < size → w % 2 ^ 32 < size * 65536 → w / 2 ^ 38 % 2 ^ 3 ≤ 6 → leb (w / 2 ^ 41) 18 ≡ soundWord size w
+unfolding soundWord
+opcode-decides size w b numbers modifier =
+    iff
+    _ _
+    (λ e. let o = leb-true _ _ e in
+    simp (
+      le-leb (unpacked w .opcode) 18 (low w o),
+      le-leb (unpacked w .modifier) 6 modifier,
+      lt-ltb (unpacked w .a .0) size (number size w numbers),
+      lt-ltb (unpacked w .b .0) size b,
+      eq-eqb (w / 2 ^ 46) 0 (top w o),
+    ))
+    (λ e. let f = sound-fields size w e in le-leb _ _ (high w (f .0) (f .1 .opcode)))
   where
     high : (w : ℕ) → w < 2 ^ 46 → w / 2 ^ 41 % 2 ^ 5 ≤ 18 → w / 2 ^ 41 ≤ 18
     high w t h = omega arith
 
-    numbers : (size w : ℕ) → w / 2 ^ 16 % 2 ^ 16 < size → w % 2 ^ 32 < size * 65536
-    numbers size w h = omega arith
-
-four-tell : (size w : ℕ) → fourTests size w ≡ true → soundWord size w ≡ true
-unfolding soundWord
-four-tell size w e =
-    let p = both (leb (w / 2 ^ 41) 18 && leb (w / 2 ^ 38 % 2 ^ 3) 6 && ltb (w % 2 ^ 32) (size * 65536)) (ltb (w % 2 ^ 16) size) e in
-    let q = both (leb (w / 2 ^ 41) 18 && leb (w / 2 ^ 38 % 2 ^ 3) 6) (ltb (w % 2 ^ 32) (size * 65536)) (p .0) in
-    let r = both (leb (w / 2 ^ 41) 18) (leb (w / 2 ^ 38 % 2 ^ 3) 6) (q .0) in
-    simp (
-      le-leb (unpacked w .opcode) 18 (low w (leb-true _ _ (r .0))),
-      r .1,
-      lt-ltb (unpacked w .a .0) size (number size w (ltb-true _ _ (q .1))),
-      p .1,
-      eq-eqb (w / 2 ^ 46) 0 (top w (leb-true _ _ (r .0))),
-    )
-  where
     low : (w : ℕ) → w / 2 ^ 41 ≤ 18 → w / 2 ^ 41 % 2 ^ 5 ≤ 18
     low w h = omega arith
 
@@ -102,6 +100,3 @@ four-tell size w e =
 
     number : (size w : ℕ) → w % 2 ^ 32 < size * 65536 → w / 2 ^ 16 % 2 ^ 16 < size
     number size w h = omega arith
-
-pub sound-by-four : (size w : ℕ) → fourTests size w ≡ soundWord size w
-sound-by-four size w = either-way _ _ (four-tell size w) (four-told size w)

@@ -68,10 +68,17 @@ pub fn with_b(w: u64, b: Relative) -> u64
 pub fn sound(w: u64, size: u32) -> bool
     ensures { λ r. ⌜ r ≡ soundWord size w ⌝ }
 {
-    (w >> 41 <= STP)
-        & ((w >> 38) & 7 <= I as u64)
-        & (w & 0xffff_ffff < size as u64 * 65536)
-        & (w & 0xffff < size as u64)
+    let m = size as u64;
+    if w & 0xffff >= m {
+        return false;
+    }
+    if w & 0xffff_ffff >= m * 65536 {
+        return false;
+    }
+    if (w >> 38) & 7 > I as u64 {
+        return false;
+    }
+    w >> 41 <= STP
 }
 
 // The word of a fresh cell.

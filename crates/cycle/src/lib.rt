@@ -21,10 +21,12 @@ fn ceiling_of(ceiling: Ceiling) -> u64
 }
 
 // Steps while steps taken are below the ceiling, up to the first answer not 0.
-pub fn run(core: &mut [u64], queue: &mut [u64], mut h: Header, ceiling: Ceiling) -> Outcome
+pub fn run(core: &mut [u64], queue: &mut [u64], h: Header, ceiling: Ceiling) -> Outcome
     ensures { λ r. ⌜ given (told (r .answer)) (r .writes) (r .steps) (machineOf (now (core .exit)) (now (queue .exit)) (r .header))
         ≡ givenBy (spec.run ceiling (machineOf (now (core .entry)) (now (queue .entry)) h)) ⌝ }
 {
+    let rules = h.rules;
+    let names = h.names;
     let mut counts = h.counts;
     let mut threads = h.threads;
     let limit = ceiling_of(ceiling);
@@ -33,33 +35,38 @@ pub fn run(core: &mut [u64], queue: &mut [u64], mut h: Header, ceiling: Ceiling)
         queue,
         &mut counts,
         &mut threads,
-        &h.names.bytes,
-        &h.names.lengths,
-        h.rules,
-        h.names.held,
+        &names.bytes,
+        &names.lengths,
+        rules,
+        names.held,
         h.ring,
         h.steps,
         limit,
     );
     let ring = ran.ring;
-    h.ring = ring;
-    h.steps = ran.taken;
-    h.counts = counts;
-    h.threads = threads;
     let answer = ran.answer;
     Outcome {
         answer,
         writes: ran.writes,
         steps: ran.steps,
-        header: h,
+        header: Header {
+            rules,
+            ring,
+            steps: ran.taken,
+            names,
+            counts,
+            threads,
+        },
     }
 }
 
 // Executes one instruction of the process at the front: a run with a ceiling of one more step.
-pub fn step(core: &mut [u64], queue: &mut [u64], mut h: Header) -> Outcome
+pub fn step(core: &mut [u64], queue: &mut [u64], h: Header) -> Outcome
     ensures { λ r. ⌜ given (told (r .answer)) (r .writes) (r .steps) (machineOf (now (core .exit)) (now (queue .exit)) (r .header))
         ≡ givenBy (one.step (machineOf (now (core .entry)) (now (queue .entry)) h)) ⌝ }
 {
+    let rules = h.rules;
+    let names = h.names;
     let mut counts = h.counts;
     let mut threads = h.threads;
     let limit = h.steps as u64 + 1;
@@ -68,24 +75,27 @@ pub fn step(core: &mut [u64], queue: &mut [u64], mut h: Header) -> Outcome
         queue,
         &mut counts,
         &mut threads,
-        &h.names.bytes,
-        &h.names.lengths,
-        h.rules,
-        h.names.held,
+        &names.bytes,
+        &names.lengths,
+        rules,
+        names.held,
         h.ring,
         h.steps,
         limit,
     );
     let ring = s.ring;
-    h.ring = ring;
-    h.steps = s.taken;
-    h.counts = counts;
-    h.threads = threads;
     let answer = s.answer;
     Outcome {
         answer,
         writes: s.writes,
         steps: s.steps,
-        header: h,
+        header: Header {
+            rules,
+            ring,
+            steps: s.taken,
+            names,
+            counts,
+            threads,
+        },
     }
 }

@@ -12,7 +12,7 @@ use Rattle.machine.specs.declared.Roster.{Roster}
 use Rattle.machine.specs.declared.Rules.{Rules}
 use Rattle.machine.specs.State.{ofSize, Machine}
 use Rattle.machine.specs.Names.{register}
-use Rattle.machine.specs.Queue.{full, pop, push, started}
+use Rattle.machine.specs.Queue.{full, push, started}
 
 -- a machine of these memories and header
 abbrev pub machineOf : List ℕ → List ℕ → Header → Machine
@@ -50,10 +50,6 @@ queueOf queue ring counts threads = machineOf [] queue (headerOf (ofSize 0) ring
 -- the head lies in a queue memory of at most 65,535 entries
 abbrev pub headed : Machine → Bool
 headed m = leb (length (m .queue)) 65535 && ltb (m .header .ring .head) (length (m .queue))
-
--- pop, where the head lies in the ring
-unfoldable pub popIf : Machine → Machine
-popIf m = cond (headed m) (pop m) m
 
 -- there is room for an entry of the name at i, and its count can rise
 abbrev pub hasRoom : Machine → ℕ → Bool

@@ -1,15 +1,14 @@
 -- Laws of the pushes of a step: nothing, the next place, or it and a child. They change the queue, the counts and the thread numbers only.
 -- Assumes nothing.
 use Prim.Native.Nat.{ℕ, _≤_, _<_}
-use mathlib.Core.Path.{_≡_, refl, _∙_}
+use mathlib.Core.Path.{_≡_, refl}
 use mathlib.Core.Bool.{Bool, true, false, cond}
-use mathlib.Core.List.{List}
 use native.Mathlib.Omega.{arith}
-use lib.ListN.{length, length-set}
+use lib.ListN.{length}
 use borrow.Author.Tests.{leb-false}
 use Rattle.machine.specs.declared.Entry.{Entry}
 use Rattle.machine.specs.State.{Machine}
-use Rattle.machine.specs.Names.{isNew, numbered}
+use Rattle.machine.specs.Names.{numbered}
 use Rattle.machine.specs.Queue.{entry, full, push, started}
 use Rattle.machine.specs.Execution.{Next, ends, goes, splits}
 use Rattle.machine.specs.Step.{Queued, queued}
@@ -43,24 +42,22 @@ any-places (splits p c) = (tt, tt)
 -- queueing changes the queue, the counts and the next thread numbers
 pub record QueueOnly (m : Machine) (q : Queued) : Type 0 where
   pub core : q .machine .core ≡ m .core
-  pub queue : length (q .machine .queue) ≡ length (m .queue)
   pub rules : q .machine .header .rules ≡ m .header .rules
   pub steps : q .machine .header .steps ≡ m .header .steps
-  pub names : (n : List ℕ) → isNew (q .machine .header .names) n ≡ isNew (m .header .names) n
+  pub names : q .machine .header .names ≡ m .header .names
   pub pushes : q .pushes ≤ 2
 
 pub queue-only : (x : Next) (e : Entry) (m : Machine) → QueueOnly m (queued x e m)
 unfolding push started numbered
 queue-only x e m =
     queued-by-cases (QueueOnly m) (λ p. Unit {0}) e m
-    (record { core = refl; queue = refl; rules = refl; steps = refl; names = λ n. refl; pushes = omega arith })
-    (λ p q. record { core = refl; queue = length-set (m .queue) _ _; rules = refl; steps = refl; names = λ n. refl; pushes = omega arith })
+    (record { core = refl; rules = refl; steps = refl; names = refl; pushes = omega arith })
+    (λ p q. record { core = refl; rules = refl; steps = refl; names = refl; pushes = omega arith })
     (λ p c q r f. record {
       core = refl;
-      queue = length-set (push (entry p (e .thread) (e .name)) m .queue) _ _ ∙ length-set (m .queue) _ _;
       rules = refl;
       steps = refl;
-      names = λ n. refl;
+      names = refl;
       pushes = omega arith;
     }) x (any-places x)
 

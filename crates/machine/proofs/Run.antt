@@ -6,7 +6,6 @@ use mathlib.Core.Bool.{Bool, true, false, cond, not, true≢false}
 use native.Mathlib.Nat.{add-zero}
 use native.Mathlib.Omega.{arith}
 use lib.Dec.{eqb}
-use lib.ListN.{length}
 use borrow.Author.Tests.{eqb-true}
 use Rattle.machine.specs.declared.Ceiling.{Ceiling}
 use Rattle.machine.specs.declared.Ceiling.the-variants.{Steps}
@@ -17,7 +16,7 @@ use Rattle.machine.specs.Run.{plays, ceilingOf, run}
 use Rattle.machine.proofs.Checks.{Refused, refused}
 use Rattle.machine.proofs.Names.{Shape}
 use Rattle.machine.proofs.Soundness.{SoundHeader, header-sound}
-use Rattle.machine.proofs.Step.{is-executed, step-by-cases, step-executed, step-counts, step-value, step-lengths, ready, step-sound}
+use Rattle.machine.proofs.Step.{is-executed, step-by-cases, step-executed, step-counts, step-value, step-fixed, ready, step-sound}
 
 -- an unsound header: 9, and nothing is done
 pub run-unsound : (c : Ceiling) (m : Machine) → soundHeader m ≡ false → run c m ≡ settle (refusal 9 0) m (plays (ceilingOf c - m .header .steps) m)
@@ -146,12 +145,11 @@ module _ (P : Machine → Type 0) (kept : (m : Machine) → P m → P (step m .m
     pub run-answers : (c : Ceiling) (m : Machine) → soundHeader m ≡ true → P m → Q (run c m .number)
     run-answers c m e h = rw (run-plays c m e) (plays-answers (ceilingOf c - m .header .steps) m h)
 
--- the lengths of core and queue, and the rules
-pub run-lengths : (c : Ceiling) (m : Machine)
-    → (length (run c m .machine .core) ≡ length (m .core)) × (length (run c m .machine .queue) ≡ length (m .queue)) × (run c m .machine .header .rules ≡ m .header .rules)
-run-lengths c m =
-    run-keeps (λ n. (length (n .core) ≡ length (m .core)) × (length (n .queue) ≡ length (m .queue)) × (n .header .rules ≡ m .header .rules))
-    (λ n h. let s = step-lengths n in (s .0 ∙ h .0, s .1 ∙ h .1, s .2 ∙ h .2)) c m (refl, refl, refl)
+-- the rules and the names stay
+pub run-fixed : (c : Ceiling) (m : Machine) → (run c m .machine .header .rules ≡ m .header .rules) × (run c m .machine .header .names ≡ m .header .names)
+run-fixed c m =
+    run-keeps (λ n. (n .header .rules ≡ m .header .rules) × (n .header .names ≡ m .header .names)) (λ n h. let s = step-fixed n in (s .0 ∙ h .0, s .1 ∙ h .1))
+    c m (refl, refl)
 
 -- the steps that a run reports are those by which steps taken rise
 plays-counts : (k : ℕ) (m : Machine) → plays k m .machine .header .steps ≡ m .header .steps + plays k m .steps

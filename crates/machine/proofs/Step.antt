@@ -18,7 +18,6 @@ use Rattle.cell.specs.declared.Cell.{Cell}
 use Rattle.cell.specs.Cells.{soundWord}
 use Rattle.types.specs.Opcode.{LDP, STP}
 use Rattle.machine.specs.State.{Machine, Outcome, Verdict, accepted, refusal, first, settle}
-use Rattle.machine.specs.Names.{isNew}
 use Rattle.machine.specs.Queue.{front, nameOf, pop}
 use Rattle.machine.specs.Pointers.{Site}
 use Rattle.machine.specs.Execution.{Ending, dat, divisor, Next, ends, goes, splits}
@@ -36,7 +35,7 @@ length-store : (c : Option Cell) (core : List ℕ) (p : ℕ) → length (storeTo
 length-store none core p = refl
 length-store (some c) core p = length-set core p _
 
-pub length-core-after : (m : Machine) → length (coreAfter m) ≡ length (m .core)
+length-core-after : (m : Machine) → length (coreAfter m) ≡ length (m .core)
 unfolding coreAfter effect
 length-core-after m =
     length-store (effect m .cell) (operandB m .core) (operandB m .write)
@@ -99,10 +98,9 @@ module _ (m : Machine) (c : SoundCore (m .header .rules .size) (m .core)) (h : p
 -- an instruction executed
 pub record Executed (m : Machine) (o : Outcome) : Type 0 where
   pub core : o .machine .core ≡ coreAfter m
-  pub queue : length (o .machine .queue) ≡ length (m .queue)
   pub rules : o .machine .header .rules ≡ m .header .rules
   pub steps : o .machine .header .steps ≡ m .header .steps + 1
-  pub names : (n : List ℕ) → isNew (o .machine .header .names) n ≡ isNew (m .header .names) n
+  pub names : o .machine .header .names ≡ m .header .names
   pub counted : o .steps ≡ 1
   pub writes : o .writes ≡ stepWrites m
   pub pushes : o .pushes ≤ 2
@@ -125,7 +123,6 @@ is-executed m =
     let q = queue-only (effect m .next) (popped m) (counted (coreAfter m) (pop m)) in
     record {
       core = q .core;
-      queue = q .queue;
       rules = q .rules;
       steps = q .steps;
       names = q .names;
@@ -184,13 +181,11 @@ step-value m =
     step-by-cases (λ o. o .number ≡ 0 → o .value ≡ 0) m (λ n v e x z. absurd (true≢false (sym (ap executes z) ∙ x)))
     (λ e. value-next (effect m .next) _ _)
 
--- the lengths of core and queue, and the rules
-pub step-lengths : (m : Machine)
-    → (length (step m .machine .core) ≡ length (m .core)) × (length (step m .machine .queue) ≡ length (m .queue)) × (step m .machine .header .rules ≡ m .header .rules)
-step-lengths m =
-    step-by-cases (λ o. (length (o .machine .core) ≡ length (m .core)) × (length (o .machine .queue) ≡ length (m .queue)) × (o .machine .header .rules ≡ m .header .rules)) m
-    (λ n v e x. (refl, refl, refl))
-    (λ e. let i = is-executed m in (ap length (i .core) ∙ length-core-after m, i .queue, i .rules))
+-- the rules and the names stay
+pub step-fixed : (m : Machine) → (step m .machine .header .rules ≡ m .header .rules) × (step m .machine .header .names ≡ m .header .names)
+step-fixed m =
+    step-by-cases (λ o. (o .machine .header .rules ≡ m .header .rules) × (o .machine .header .names ≡ m .header .names)) m (λ n v e x. (refl, refl))
+    (λ e. let i = is-executed m in (i .rules, i .names))
 
 -- a step that passed its checks: the queue is not empty, and header and front entry are sound
 pub record Ready (m : Machine) : Type 0 where

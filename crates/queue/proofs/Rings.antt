@@ -3,7 +3,7 @@
 use mathlib.Core.Path.{_≡_, refl, ap, _∙_}
 use mathlib.Core.Bool.{Bool, true, false}
 use mathlib.Core.List.{List, []}
-use Prim.Native.Nat.{ℕ, _+_, _-_, _≤_, _<_}
+use Prim.Native.Nat.{ℕ, _+_, _≤_, _<_}
 use native.Mathlib.Omega.{arith}
 use lib.ListN.{length, getD, set}
 use borrow.Author.Tests.{le-leb, lt-leb, lt-ltb, le-ltb, eq-eqb, ne-eqb}
@@ -13,8 +13,8 @@ use Rattle.machine.specs.declared.Entry.{Entry}
 use Rattle.machine.specs.declared.Ring.{Ring}
 use Rattle.machine.specs.State.{Machine}
 use Rattle.machine.specs.Names.{numbered}
-use Rattle.machine.specs.Queue.{packedEntry, unpackedEntry, entry, pop, push, started}
-use Rattle.lent.specs.Parts.{queueOf, headed, popIf, hasRoom, pushIf, startIf}
+use Rattle.machine.specs.Queue.{packedEntry, entry, push, started}
+use Rattle.lent.specs.Parts.{queueOf, headed, hasRoom, pushIf, startIf}
 
 module _ (m : Machine) where
   pub too-long : 65535 < length (m .queue) → headed m ≡ false
@@ -25,10 +25,6 @@ module _ (m : Machine) where
 
   pub inside : length (m .queue) ≤ 65535 → m .header .ring .head < length (m .queue) → headed m ≡ true
   inside l h = simp (le-leb _ _ l, lt-ltb _ _ h)
-
-  pub not-popped : headed m ≡ false → m ≡ popIf m
-  unfolding popIf
-  not-popped e = simp e
 
   -- room, test by test
   pub no-head : (i : ℕ) → headed m ≡ false → hasRoom m i ≡ false
@@ -51,12 +47,6 @@ module _ (m : Machine) where
   not-pushed e h = simp h
 
 module _ (queue counts : List ℕ) (ring : Ring) where
-  pub popped-is : (i : ℕ) {h l n : ℕ} → headed (queueOf queue ring counts []) ≡ true → i ≡ unpackedEntry (getD queue (ring .head) 0) .name
-      → h ≡ ahead (length queue) (ring .head) 1 → l ≡ ring .length - 1 → n ≡ getD counts i 0 - 1
-      → queueOf queue (record { head = h; length = l }) (set counts i n) [] ≡ popIf (queueOf queue ring counts [])
-  unfolding popIf pop
-  popped-is i t e eh el en = simp t (cc)
-
   pub pushed-is : (e : Entry) {at l n w : ℕ} → hasRoom (queueOf queue ring counts []) (e .name) ≡ true
       → at ≡ ahead (length queue) (ring .head) (ring .length) → w ≡ packedEntry e → l ≡ ring .length + 1 → n ≡ getD counts (e .name) 0 + 1
       → queueOf (set queue at w) (record { head = ring .head; length = l }) (set counts (e .name) n) [] ≡ pushIf e (queueOf queue ring counts [])

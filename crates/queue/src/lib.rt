@@ -3,12 +3,11 @@ ghost use mathlib.Core.Path.{_≡_};
 ghost use mathlib.Core.Bool.{cond};
 ghost use mathlib.Core.List.{[]};
 ghost use lib.Dec.{eqb};
-ghost use Prim.Native.Nat.{ℕ, _+_, _-_};
+ghost use Prim.Native.Nat.{ℕ, _+_};
 ghost use Rattle.offset.specs.Offset.{ahead};
 ghost use Rattle.machine.specs.Queue as spec;
-ghost use Rattle.lent.specs.Parts.{queueOf, popIf, pushIf, startIf};
+ghost use Rattle.lent.specs.Parts.{queueOf, pushIf, startIf};
 use entry::pack;
-use entry::unpack;
 use machine::Entry;
 use machine::Ring;
 use machine::limits::LAST_NUMBER;
@@ -43,16 +42,6 @@ pub fn slot_ahead(slot: u32, n: u32, slots: u32) -> u32
     s
 }
 
-// One less, or 0.
-fn less(n: u32) -> u32
-    ensures { λ r. ⌜ r ≡ n - 1 ⌝ }
-{
-    if n == 0 {
-        return 0;
-    }
-    n - 1
-}
-
 // One more, of a number that can rise.
 fn more(n: u32) -> u32
     requires { ⌜ (n ≡ 4294967295 → ⊥) ⌝ }
@@ -61,30 +50,8 @@ fn more(n: u32) -> u32
     n + 1
 }
 
-// Takes the front entry off: the head moves one on, round the end, and its name's count falls.
-pub fn pop(queue: &[u64], ring: Ring, counts: &mut [u32; 16]) -> Ring
-    ensures { λ r. ⌜ queueOf (now (queue .entry)) r (now (counts .exit)) []
-        ≡ popIf (queueOf (now (queue .entry)) ring (now (counts .entry)) []) ⌝ }
-{
-    let slots = queue.len();
-    if slots > MOST_ENTRIES {
-        return ring;
-    }
-    let at = ring.head as usize;
-    if slots <= at {
-        return ring;
-    }
-    let e = unpack(queue[at]);
-    let name = e.name as usize;
-    let count = counts[name];
-    counts[name] = less(count);
-    let head = slot_ahead(ring.head, 1, slots as u32);
-    let length = less(ring.length);
-    Ring { head, length }
-}
-
 // Puts an entry behind the last one, and its name's count rises; where there is no room it changes nothing.
-pub fn push(queue: &mut [u64], ring: Ring, counts: &mut [u32; 16], e: Entry) -> Ring
+fn push(queue: &mut [u64], ring: Ring, counts: &mut [u32; 16], e: Entry) -> Ring
     ensures { λ r. ⌜ queueOf (now (queue .exit)) r (now (counts .exit)) []
         ≡ pushIf e (queueOf (now (queue .entry)) ring (now (counts .entry)) []) ⌝ }
 {

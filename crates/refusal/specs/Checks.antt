@@ -10,12 +10,12 @@ use Rattle.machine.specs.Soundness.{freshChecks}
 use Rattle.machine.specs.Step.{nextChecks}
 
 -- M and the memories' lengths are such as fresh takes, and the head lies in the queue memory: so no read leaves a memory
-abbrev pub within : Machine → Bool
-within m = passes (freshChecks (m .header .rules) (m .core) (m .queue)) && ltb (m .header .ring .head) (length (m .queue))
+abbrev pub inBounds : Machine → Bool
+inBounds m = passes (freshChecks (m .header .rules) (m .core) (m .queue)) && ltb (m .header .ring .head) (length (m .queue))
 
 -- 9 where that is not so, then the order of a step after its header's 9
 abbrev pub refusalChecks : Machine → List Check
-refusalChecks m = check (not (within m)) 9 ∷ nextChecks m
+refusalChecks m = check (not (inBounds m)) 9 ∷ nextChecks m
 
 -- the first that applies, 0 where none does
 unfoldable pub refused : Machine → Told

@@ -1,17 +1,20 @@
 // The refusal of the next step, found from the lent parts of a record before anything changes (01, 'One step').
 ghost use mathlib.Core.Path.{_≡_};
-ghost use mathlib.Core.Bool.{true};
+ghost use mathlib.Core.Bool.{true, cond, _||_};
 ghost use Prim.Native.Nat.{_<_, _≤_};
+ghost use lib.Dec.{eqb};
 ghost use lib.ListN.{length, getD};
 ghost use Rattle.answer.specs.Numbers.{told};
-ghost use Rattle.cell.specs.Cells.{soundWord, store};
+ghost use Rattle.cell.specs.Cells.{soundWord};
 ghost use Rattle.machine.specs.State.{first, verdictTold};
 ghost use Rattle.machine.specs.Pointers.{siteAt};
 ghost use Rattle.lent.specs.Parts.{unnamed};
-ghost use Rattle.address.specs.inner.Operands.{Ready, Fetched};
-ghost use Rattle.refusal.specs.inner.Looking.{Looks, soundSeen, cellChecks};
+ghost use Rattle.address.specs.inner.Operands.{Fetched};
+ghost use Rattle.refusal.specs.inner.Looking.{soundBoth, left, soundSeenAt, cellChecks};
 ghost use Rattle.refusal.specs.Checks.{refused};
 use address::aim;
+use address::decrement;
+use address::increment;
 use answer::Answer;
 use cell::sound;
 use entry::unpack;
@@ -21,9 +24,7 @@ use machine::limits::LARGEST_CORE;
 use machine::limits::LAST_NUMBER;
 use machine::limits::MOST_ENTRIES;
 use offset::Absolute;
-use offset::Relative;
 use offset::add;
-use offset::plus;
 use soundness::sound_front;
 use types::mode::INDIRECT_A;
 use types::mode::POST_INC_INDIRECT_A;
@@ -35,105 +36,72 @@ use word::number;
 use word::opcode;
 use word::with_number;
 
-// An operand looked at: whether the cells that it reads are sound, and the place and the word of its one change.
-struct Looked {
-    pub sound: bool,
-    pub at: Absolute,
-    pub word: u64,
+// Whether both cells that an operand reads are sound: the one at its location, of which the word is given, and the one at its pointer.
+fn look(core: &[u64], size: u32, location: Absolute, word: u64, mode: u64) -> bool
+    requires { ⌜ (length (now core) ≡ size) × (location .0 < size) × (mode < 8) ⌝ }
+    ensures { λ r. ⌜ r ≡ soundBoth size (now (core .entry)) (location .0) word mode ⌝ }
+{
+    if !sound(word, size) {
+        return false;
+    }
+    if mode < INDIRECT_A {
+        return true;
+    }
+    let field = (mode % 2) as u8;
+    let to = aim(size, mode, number(word, field));
+    let pointer = add(location, to, size);
+    let i = pointer.0 as usize;
+    let there = core[i];
+    sound(there, size)
 }
 
-// The word at a place of the core with that word at that place.
-fn word_at(core: &[u64], at: Absolute, word: u64, place: Absolute) -> u64
-    requires { ⌜ place .0 < length (now core) ⌝ }
-    ensures { λ r. ⌜ r ≡ getD (store (now (core .entry)) (at .0) word) (place .0) 0 ⌝ }
+// The word that an operand leaves at its location, of the sound one there.
+fn changed(word: u64, size: u32, mode: u64) -> u64
+    requires { ⌜ (soundWord size word ≡ true) × (mode < 8) ⌝ }
+    ensures { λ r. ⌜ r ≡ left size word mode ⌝ }
 {
-    if place.0 == at.0 {
+    if mode < PRE_DEC_INDIRECT_A {
         return word;
     }
-    let i = place.0 as usize;
-    let there = core[i];
+    let field = (mode % 2) as u8;
+    let found = number(word, field);
+    if mode < POST_INC_INDIRECT_A {
+        return with_number(word, field, decrement(found, size));
+    }
+    with_number(word, field, increment(found, size))
+}
+
+// The word at a place: the one that was there, or the one that is left at that location.
+fn word_at(place: Absolute, there: u64, location: Absolute, word: u64) -> u64
+    ensures { λ r. ⌜ r ≡ cond (eqb (place .0) (location .0)) word there ⌝ }
+{
+    if place.0 == location.0 {
+        return word;
+    }
     there
 }
 
-// An operand of the core with that word at that place.
-fn look(
-    core: &[u64],
-    at: Absolute,
-    word: u64,
-    rules: Rules,
-    pc: Absolute,
-    mode: u64,
-    n: Relative,
-) -> Looked
-    requires { ⌜ Ready rules (store (now core) (at .0) word) (pc .0) (n .0) × (mode < 8) × (soundWord (rules .size) (getD (store (now core) (at .0) word) (pc .0) 0) ≡ true) ⌝ }
-    ensures { λ r. ⌜ Looks (siteAt rules (pc .0)) (store (now (core .entry)) (at .0) word) mode (n .0) r ⌝ }
-{
-    let size = rules.size;
-    let location = add(pc, n, size);
-    let old = word_at(core, at, word, location);
-    if !sound(old, size) {
-        return Looked {
-            sound: false,
-            at: location,
-            word: old,
-        };
-    }
-    if mode < INDIRECT_A {
-        return Looked {
-            sound: true,
-            at: location,
-            word: old,
-        };
-    }
-    let field = (mode % 2) as u8;
-    let found = number(old, field);
-    let to = aim(size, mode, found);
-    let pointer = add(location, to, size);
-    if !sound(word_at(core, at, word, pointer), size) {
-        return Looked {
-            sound: false,
-            at: location,
-            word: old,
-        };
-    }
-    if mode < PRE_DEC_INDIRECT_A {
-        return Looked {
-            sound: true,
-            at: location,
-            word: old,
-        };
-    }
-    if mode < POST_INC_INDIRECT_A {
-        let lowered = with_number(old, field, to);
-        return Looked {
-            sound: true,
-            at: location,
-            word: lowered,
-        };
-    }
-    let more = plus(found, Relative(1), size);
-    let raised = with_number(old, field, more);
-    Looked {
-        sound: true,
-        at: location,
-        word: raised,
-    }
-}
-
-// Whether the other cells that the instruction at PC reads are sound: A's in the core as it is, B's in the core with the word that A changed.
+// Whether the other cells that the instruction at PC reads are sound. B goes by the word that A leaves, but a change of a number keeps a
+// word sound: so the cell at B's pointer is read as it is.
 fn readable(core: &[u64], rules: Rules, pc: Absolute, here: u64) -> bool
     requires { ⌜ Fetched rules (now core) (pc .0) here ⌝ }
-    ensures { λ r. ⌜ r ≡ soundSeen (siteAt rules (pc .0)) (now (core .entry)) ⌝ }
+    ensures { λ r. ⌜ r ≡ soundSeenAt (siteAt rules (pc .0)) (now (core .entry)) ⌝ }
 {
-    let a = look(core, pc, here, rules, pc, a_mode(here), number(here, 0));
-    if !a.sound {
+    let size = rules.size;
+    let mode = a_mode(here);
+    let location = add(pc, number(here, 0), size);
+    let at = location.0 as usize;
+    let old = core[at];
+    if !look(core, size, location, old, mode) {
         return false;
     }
-    let at = a.at;
-    let word = a.word;
-    let again = word_at(core, at, word, pc);
-    let b = look(core, at, word, rules, pc, b_mode(here), number(again, 1));
-    b.sound
+    let word = changed(old, size, mode);
+    let again = word_at(pc, here, location, word);
+    let second = add(pc, number(again, 1), size);
+    let i = second.0 as usize;
+    let there = core[i];
+    let found = word_at(second, there, location, word);
+    look(core, size, second, found, b_mode(here))
 }
 
 // The refusal of the instruction at a place: 9, 10, 9.
@@ -156,6 +124,19 @@ fn cell_refusal(core: &[u64], rules: Rules, pc: Absolute) -> Answer
     Answer::Done
 }
 
+// Whether the steps taken, or the next thread number of a name, have come to their end.
+fn exhausted(threads: &[u32; 16], taken: u32, name: u8) -> bool
+    requires { ⌜ name < 16 ⌝ }
+    ensures { λ r. ⌜ r ≡ (eqb taken 4294967295 || eqb (getD (now (threads .entry)) name 0) 4294967295) ⌝ }
+{
+    if taken == LAST_NUMBER {
+        return true;
+    }
+    let who = name as usize;
+    let thread = threads[who];
+    thread == LAST_NUMBER
+}
+
 // The refusal of the next step, 0 for none.
 pub fn refusal<'a>(
     core: &[u64],
@@ -170,13 +151,13 @@ pub fn refusal<'a>(
     ensures { λ r. ⌜ told r ≡ refused (unnamed (now (core .entry)) (now (queue .entry)) rules ring taken held (now (counts .entry)) (now (threads .entry))) ⌝ }
 {
     let slots = queue.len();
-    let within = (1 <= rules.size)
+    let in_bounds = (1 <= rules.size)
         & (rules.size <= LARGEST_CORE)
         & (rules.size as usize == core.len())
         & (1 <= slots)
         & (slots <= MOST_ENTRIES)
         & ((ring.head as usize) < slots);
-    if !within {
+    if !in_bounds {
         return Answer::UnsoundRecord;
     }
     if ring.length == 0 {
@@ -187,13 +168,8 @@ pub fn refusal<'a>(
     if !sound_front(w, rules, held, counts) {
         return Answer::UnsoundRecord;
     }
-    if taken == LAST_NUMBER {
-        return Answer::NumbersExhausted;
-    }
     let e = unpack(w);
-    let who = e.name as usize;
-    let thread = threads[who];
-    if thread == LAST_NUMBER {
+    if exhausted(threads, taken, e.name) {
         return Answer::NumbersExhausted;
     }
     cell_refusal(core, rules, e.place)

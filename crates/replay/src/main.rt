@@ -11,6 +11,7 @@ use cycle::run;
 use cycle::step;
 use machine::Ceiling;
 use machine::Header;
+use machine::Outcome;
 use machine::Rules;
 use sim::fresh;
 use warrior::load;
@@ -18,68 +19,43 @@ use warrior::load;
 mod reading;
 mod writing;
 
-// Where the next call begins, and the header that this one left.
-struct Turn {
-    at: usize,
-    header: Header,
-}
-
 // A load: name length, name, origin, instruction count and body.
-fn load_call(input: &[u8], at: usize, core: &mut [u64], queue: &mut [u64], h: Header) -> Turn {
+fn load_call(input: &[u8], at: usize, core: &mut [u64], queue: &mut [u64], h: Header) -> Outcome {
     let name_length = byte(input, at) as usize;
     let name = part(input, after(at, 1), name_length);
     let then = after(after(at, 1), name_length);
     let origin = two(input, then);
     let bytes = two(input, after(then, 2)) as usize * 12;
     let body = part(input, after(then, 4), bytes);
-    let o = load(core, queue, h, name, body, origin, 0);
-    let answer = o.answer;
-    let header = o.header;
-    tell(core, queue, header, answer);
-    Turn {
-        at: after(after(then, 4), bytes),
-        header,
-    }
-}
-
-// A run.
-fn run_call(core: &mut [u64], queue: &mut [u64], h: Header, ceiling: Ceiling) -> Header {
-    let o = run(core, queue, h, ceiling);
-    let answer = o.answer;
-    let header = o.header;
-    tell(core, queue, header, answer);
-    header
-}
-
-// A step.
-fn step_call(core: &mut [u64], queue: &mut [u64], h: Header) -> Header {
-    let o = step(core, queue, h);
-    let answer = o.answer;
-    let header = o.header;
-    tell(core, queue, header, answer);
-    header
+    load(core, queue, h, name, body, origin, 0)
 }
 
 // A call, by its kind.
-fn call(input: &[u8], at: usize, core: &mut [u64], queue: &mut [u64], h: Header) -> Turn {
+fn call(input: &[u8], at: usize, core: &mut [u64], queue: &mut [u64], h: Header) -> Outcome {
     let kind = byte(input, at);
     match kind {
         0 => load_call(input, after(at, 1), core, queue, h),
-        1 => Turn {
-            at: after(at, 1),
-            header: step_call(core, queue, h),
-        },
+        1 => step(core, queue, h),
         2 => {
             let ceiling = four(input, after(at, 1)) as u64;
-            Turn {
-                at: after(at, 5),
-                header: run_call(core, queue, h, Ceiling::Steps(ceiling)),
-            }
+            run(core, queue, h, Ceiling::Steps(ceiling))
         }
-        _ => Turn {
-            at: after(at, 1),
-            header: run_call(core, queue, h, Ceiling::Unsaid),
-        },
+        _ => run(core, queue, h, Ceiling::Unsaid),
+    }
+}
+
+// Where the call after one begins.
+fn next(input: &[u8], at: usize) -> usize {
+    let kind = byte(input, at);
+    let start = after(at, 1);
+    match kind {
+        0 => {
+            let then = after(after(start, 1), byte(input, start) as usize);
+            let bytes = two(input, after(then, 2)) as usize * 12;
+            after(after(then, 4), bytes)
+        }
+        2 => after(at, 5),
+        _ => start,
     }
 }
 
@@ -96,9 +72,11 @@ fn calls(
     let mut left = count;
     let mut header = h;
     while left > 0 {
-        let t = call(input, here, core, queue, header);
-        here = t.at;
-        header = t.header;
+        let o = call(input, here, core, queue, header);
+        let answer = o.answer;
+        header = o.header;
+        tell(core, queue, header, answer);
+        here = next(input, here);
         left = left - 1;
     }
     here

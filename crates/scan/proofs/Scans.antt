@@ -6,17 +6,16 @@ use mathlib.Core.List.{List, []}
 use Prim.Native.Nat.{ℕ, _+_, _-_, _≤_, _<_}
 use native.Mathlib.Omega.{arith}
 use lib.Dec.{eqb, leb, ltb}
-use lib.ListN.{length, getD, take}
+use lib.ListN.{length, getD}
 use borrow.Author.Tests.{leb-true, ltb-true, le-leb}
 use Rattle.laws.specs.Lists.{every, tally, table}
 use Rattle.laws.proofs.Tests.{both, iff, and-false}
 use Rattle.machine.specs.declared.Ring.{Ring}
-use Rattle.machine.specs.declared.Roster.{Roster}
 use Rattle.machine.specs.declared.Rules.{Rules}
 use Rattle.machine.specs.State.{Machine}
 use Rattle.machine.specs.Queue.{slots, entries}
 use Rattle.machine.specs.Soundness.{soundEntry}
-use Rattle.lent.specs.Parts.{namesOf, headerOf, noRing, parts, unnamed, headed}
+use Rattle.lent.specs.Parts.{namesOf, headerOf, noRing, unnamed, headed}
 use Rattle.scan.proofs.Rounds.{named}
 use Rattle.scan.specs.Scanning.{inRange, soundCells, soundEntries, entriesAt, tallied, lasting, lastingAll, scanned}
 
@@ -96,18 +95,12 @@ module _ (k : ℕ) (m : Machine) where
     steps-end e = sym (scanned-is ∙ simp (r, e))
 
     module _ (s : lasting k (m .header .steps) ≡ true) where
-      pub threads-end : every (lasting k) (take (m .header .names .held) (m .header .threads)) ≡ false → false ≡ scanned k m
+      pub threads-end : every (lasting k) (m .header .threads) ≡ false → false ≡ scanned k m
       threads-end e = sym (scanned-is ∙ simp (r, s, e))
 
-      module _ (t : every (lasting k) (take (m .header .names .held) (m .header .threads)) ≡ true) where
+      module _ (t : every (lasting k) (m .header .threads) ≡ true) where
         pub entries-unsound : (soundEntries m && tallied m) ≡ false → false ≡ scanned k m
         entries-unsound e = sym (scanned-is ∙ simp (r, s, t, e))
 
         pub by-cells : (soundEntries m && tallied m) ≡ true → soundCells m ≡ scanned k m
         by-cells e = sym (scanned-is ∙ simp (r, s, t, e))
-
--- the names' bytes play no part in it
-pub by-held : (k : ℕ) (core queue : List ℕ) (rules : Rules) (ring : Ring) (steps : ℕ) (names : Roster) (counts threads : List ℕ)
-    → scanned k (unnamed core queue rules ring steps (names .held) counts threads) ≡ scanned k (parts core queue rules ring steps names counts threads)
-unfolding scanned entries soundEntry
-by-held k core queue rules ring steps names counts threads = refl

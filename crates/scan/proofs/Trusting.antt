@@ -8,7 +8,7 @@ use Prim.Native.Nat.{ℕ, zero, suc, _+_, _≤_, _<_}
 use native.Mathlib.Omega.{arith}
 use lib.Dec.{eqb}
 use lib.ListN.{length, getD, take, drop, set, List·getD-eq-default}
-use lib.Seq.{length-take-le, getD-take}
+use lib.Seq.{length-take-le}
 use borrow.Author.Tests.{eqb-true, eq-eqb, ne-eqb, leb-true}
 use Rattle.answer.specs.Numbers.{Told, gives}
 use Rattle.laws.specs.Lists.{oneIf, every, tally, table, same}
@@ -31,7 +31,6 @@ use Rattle.machine.proofs.Soundness.{SoundHeader, size-small, counts-long, soun
 use Rattle.machine.proofs.Agreement.{Known}
 use Rattle.machine.proofs.Queueing.{queued-by-cases, any-places}
 use Rattle.machine.proofs.Step.{Ready, nonzero, step-some, counting, counting-sound, counting-held, step-by-cases, step-counts}
-use Rattle.machine.proofs.Bounds.{Bounded}
 use Rattle.machine.proofs.SoundMachine.{Inside, SoundMachine, sound-ready, step-keeps}
 use Rattle.machine.proofs.NotNine.{step-not-nine}
 use Rattle.scan.specs.Scanning.{inRange, soundCells, soundEntries, entriesAt, tallied, lasting, lastingAll, scanned}
@@ -91,29 +90,28 @@ pub record Trusted (k : ℕ) (m : Machine) : Type 0 where
   pub steps : m .header .steps + k ≤ 4294967295
   pub threads : (i : ℕ) → i < m .header .names .held → getD (m .header .threads) i 0 + k ≤ 4294967295
 
-pub scan-trusts : (k : ℕ) (m : Machine) → SoundHeader m → Bounded (m .header) → scanned k m ≡ true → Trusted k m
+pub scan-trusts : (k : ℕ) (m : Machine) → SoundHeader m → scanned k m ≡ true → Trusted k m
 unfolding scanned
-scan-trusts k m s b e =
+scan-trusts k m s e =
     let a = both (inRange m && soundCells m && soundEntries m && tallied m) (lastingAll k m) e in
     let t = both (inRange m && soundCells m && soundEntries m) (tallied m) (a .0) in
     let n = both (inRange m && soundCells m) (soundEntries m) (t .0) in
     let c = both (inRange m) (soundCells m) (n .0) .1 in
-    let l = both (lasting k (m .header .steps)) (every (lasting k) (take (m .header .names .held) (m .header .threads))) (a .1) in
+    let l = both (lasting k (m .header .steps)) (every (lasting k) (m .header .threads)) (a .1) in
     let ns = every-passes (soundEntry (m .header)) (entries m) (n .1) in
+    let steps : m .header .steps + k ≤ 4294967295 = leb-true _ _ (l .0) in
+    let threads : Every (λ x. x + k ≤ 4294967295) (m .header .threads)
+    = every-weaker _ _ (λ x h. leb-true (x + k) 4294967295 h) (m .header .threads) (every-passes (lasting k) (m .header .threads) (l .1)) in
     record {
       sound = record {
         header = s;
-        numbers = b;
+        numbers = record { steps = omega arith; threads = every-weaker _ _ (λ x h. omega arith) (m .header .threads) threads };
         agree = record { known = known m s ns (t .1); counts = counts-agree m s ns (t .1) };
         core = record { small = size-small m s; length = s .core; cells = every-passes _ (m .core) c };
         entries = inside m s ns (t .1);
       };
-      steps = leb-true _ _ (l .0);
-      threads = λ i h. leb-true _ _
-          (subst (λ (x : ℕ). lasting k x ≡ true) (getD-take (m .header .names .held) (m .header .threads) i 0 h)
-          (every-at (λ x. lasting k x ≡ true) (take (m .header .names .held) (m .header .threads)) i 0
-          (every-passes (lasting k) (take (m .header .names .held) (m .header .threads)) (l .1))
-          (rw (length-take-le (m .header .names .held) (m .header .threads) (omega (arith, s .few, s .shape .threads))) h)));
+      steps = steps;
+      threads = λ i h. every-at (λ x. x + k ≤ 4294967295) (m .header .threads) i 0 threads (omega (arith, s .few, s .shape .threads));
     }
 
 -- one number of a list raised by one: no other rises
@@ -140,7 +138,7 @@ module _ (k : ℕ) (m : Machine) (t : Trusted (suc k) m) where
       and λ d. others 8 (drop 4 (stepChecks m)) refl
 
   -- the refusal of the next step can be 7 or 10 only
-  pub trusted-refusal : (n v : ℕ) → first (stepChecks m) ≡ refusal n v → (n ≡ 7) ⊎ (n ≡ 10)
+  trusted-refusal : (n v : ℕ) → first (stepChecks m) ≡ refusal n v → (n ≡ 7) ⊎ (n ≡ 10)
   unfolding step
   trusted-refusal n v e =
       number-of (λ n. (n ≡ 8 → ⊥) → (n ≡ 9 → ⊥) → (n ≡ 7) ⊎ (n ≡ 10)) (stepChecks m)

@@ -3,7 +3,7 @@
 use Prim.Native.Nat.{ℕ, _+_}
 use mathlib.Core.Bool.{Bool, _&&_}
 use lib.Dec.{eqb, leb}
-use lib.ListN.{getD, take}
+use lib.ListN.{getD}
 use Rattle.laws.specs.Lists.{every, tally, table}
 use Rattle.cell.specs.Cells.{soundWord}
 use Rattle.machine.specs.State.{Machine}
@@ -35,9 +35,9 @@ tallied m = every (λ i. eqb (getD (m .header .counts) i 0) (entriesAt m i)) (ta
 abbrev pub lasting : ℕ → ℕ → Bool
 lasting k n = leb (n + k) 4294967295
 
--- steps taken and each held name's next thread number are such counters
+-- steps taken and the next thread numbers are such counters
 abbrev pub lastingAll : ℕ → Machine → Bool
-lastingAll k m = lasting k (m .header .steps) && every (lasting k) (take (m .header .names .held) (m .header .threads))
+lastingAll k m = lasting k (m .header .steps) && every (lasting k) (m .header .threads)
 
 -- the record is sound all through, and no counter comes to its end within k steps
 unfoldable pub scanned : ℕ → Machine → Bool

@@ -4,7 +4,7 @@ ghost use mathlib.Core.Bool.{_&&_};
 ghost use mathlib.Core.List.{[]};
 ghost use Prim.Native.Nat.{_<_, _≤_};
 ghost use lib.Dec.{eqb};
-ghost use lib.ListN.{length, getD, take};
+ghost use lib.ListN.{length, getD};
 ghost use Rattle.laws.specs.Lists.{every, table};
 ghost use Rattle.cell.specs.Cells.{soundWord};
 ghost use Rattle.lent.specs.Parts.{unnamed};
@@ -41,14 +41,12 @@ fn lasts(n: u32, steps: u64) -> bool
     steps <= room
 }
 
-// The same of each held name's next thread number.
-fn threads_last(threads: &[u32; 16], held: usize, steps: u64) -> bool
-    requires { ⌜ held ≤ 16 ⌝ }
-    ensures { λ r. ⌜ r ≡ every (lasting steps) (take held (now (threads .entry))) ⌝ }
+// The same of each of these counters.
+fn all_last(numbers: &[u32], steps: u64) -> bool
+    ensures { λ r. ⌜ r ≡ every (lasting steps) (now (numbers .entry)) ⌝ }
 {
-    let numbers = &threads[..];
     let mut i: usize = 0;
-    while i < held {
+    while i < numbers.len() {
         let n = numbers[i];
         if !lasts(n, steps) {
             return false;
@@ -121,7 +119,7 @@ pub fn scan<'a>(
     if !lasts(taken, steps) {
         return false;
     }
-    if !threads_last(threads, held as usize, steps) {
+    if !all_last(&threads[..], steps) {
         return false;
     }
     if !entries_tallied(queue, counts, rules, held, ring) {

@@ -8,15 +8,15 @@ use Prim.Native.Nat.{ℕ, zero, suc, _+_, _≤_, _<_, zero-le}
 use native.Mathlib.Nat.{zero-add, eq-or-lt-of-le}
 use native.Mathlib.Omega.{arith}
 use lib.Dec.{eqb, leb, ltb}
-use lib.ListN.{length, getD, take, drop, length-take}
-use borrow.Author.Tests.{le-leb, leb-true}
+use lib.ListN.{length, getD, take, drop}
+use borrow.Author.Tests.{leb-true}
 use Rattle.laws.specs.Lists.{all, every, table, total, distinct}
 use Rattle.laws.proofs.Tests.{both, and-assoc, and-true}
 use Rattle.laws.proofs.Loops.{take-table}
-use Rattle.metadata.specs.Metadata.{validByte, validName}
+use Rattle.metadata.specs.Metadata.{validByte}
 use Rattle.machine.specs.declared.Header.{Header}
 use Rattle.machine.specs.State.{Machine}
-use Rattle.machine.specs.Names.{nameAt, names}
+use Rattle.machine.specs.Names.{names}
 use Rattle.machine.specs.Soundness.{headerTests, soundHeader, soundEntry}
 use Rattle.machine.proofs.Soundness.{taken-tests}
 use Rattle.lent.specs.Parts.{namesOf, headerOf, noRing, machineOf, validLength}
@@ -28,13 +28,6 @@ numbers m =
     leb 1 (h .rules .size) && leb (h .rules .size) 46341 && eqb (h .rules .size) (length (m .core)) && leb 1 (length (m .queue)) && leb (length (m .queue)) 65535
     && leb (h .ring .length) (length (m .queue)) && ltb (h .ring .head) (length (m .queue)) && leb (h .names .held) 16
 
--- a test that each of a table passes is what another is, where the two agree on it
-every-ext : {A : Type 0} (p q : A → Bool) (f : ℕ → A) (n i : ℕ) → ((k : ℕ) → k < i + n → i ≤ k → p (f k) ≡ q (f k)) → every p (table f i n) ≡ every q (table f i n)
-every-ext p q f zero i e = refl
-every-ext p q f (suc n) i e =
-    ap (λ (b : Bool). b && every p (table f (suc i) n)) (e i (omega arith) (omega arith))
-    ∙ ap (λ (b : Bool). q (f i) && b) (every-ext p q f n (suc i) (λ k l g. e k (omega arith) (omega arith)))
-
 -- at each place of a table that passes
 every-at : {A : Type 0} (p : A → Bool) (f : ℕ → A) (n i k : ℕ) → every p (table f i n) ≡ true → i ≤ k → k < i + n → p (f k) ≡ true
 every-at p f zero i k t l h = absurd (let z : ⊥ = omega arith in z)
@@ -42,19 +35,12 @@ every-at p f (suc n) i k t l h =
     let b = both (p (f i)) (every p (table f (suc i) n)) t in
     ⊎-elim (λ e. ap (λ (j : ℕ). p (f j)) (sym e) ∙ b .0) (λ g. every-at p f n (suc i) k (b .1) g (omega arith)) (eq-or-lt-of-le l)
 
--- where each name has 1 to 32 bytes, it is valid when its bytes are
-pub valid-names : (h : Header) → h .names .held ≤ length (h .names .lengths) → every validLength (take (h .names .held) (h .names .lengths)) ≡ true
-    → every validName (names (h .names)) ≡ every (every validByte) (names (h .names))
-valid-names h l t = every-ext validName (every validByte) (nameAt (h .names)) (h .names .held) 0 (λ k g z. short k (rw zero-add at g))
+-- where each name has 1 to 32 bytes, none has more
+pub short : (lengths : List ℕ) (held : ℕ) → held ≤ length lengths → every validLength (take held lengths) ≡ true → (k : ℕ) → k < held → getD lengths k 0 ≤ 32
+short lengths held l t k h = leb-true (getD lengths k 0) 32 (both (leb 1 (getD lengths k 0)) (leb (getD lengths k 0) 32) valid .1)
   where
-    size : (k : ℕ) → k < h .names .held → validLength (getD (h .names .lengths) k 0) ≡ true
-    size k g = every-at validLength (λ (i : ℕ). getD (h .names .lengths) i 0) (h .names .held) 0 k (ap (every validLength) (sym (take-table 0 (h .names .lengths) (h .names .held) l)) ∙ t) zero-le (rw zero-add g)
-
-    short : (k : ℕ) → k < h .names .held → validName (nameAt (h .names) k) ≡ every validByte (nameAt (h .names) k)
-    short k g =
-        let b = both (leb 1 (getD (h .names .lengths) k 0)) (leb (getD (h .names .lengths) k 0) 32) (size k g) in
-        let e : getD (h .names .lengths) k 0 ≤ 32 = leb-true (getD (h .names .lengths) k 0) 32 (b .1) in
-        simp (le-leb (length (nameAt (h .names) k)) 32 (rw length-take (omega arith)))
+    valid : validLength (getD lengths k 0) ≡ true
+    valid = every-at validLength (λ (i : ℕ). getD lengths i 0) held 0 k (ap (every validLength) (sym (take-table 0 lengths held l)) ∙ t) zero-le (rw zero-add h)
 
 -- the header's tests, numbers first
 module _ (m : Machine) where
@@ -76,19 +62,16 @@ module _ (m : Machine) where
     pub no-lengths : every validLength (take (m .header .names .held) (m .header .names .lengths)) ≡ false → false ≡ soundHeader m
     no-lengths e = sym (header-is ∙ simp (n, e))
 
-    module _ (l : every validLength (take (m .header .names .held) (m .header .names .lengths)) ≡ true) (sixteen : length (m .header .names .lengths) ≡ 16) where
-      bytes : every validName (names (m .header .names)) ≡ every (every validByte) (names (m .header .names))
-      bytes = valid-names (m .header) (let f : m .header .names .held ≤ 16 = few in omega arith) l
+    module _ (l : every validLength (take (m .header .names .held) (m .header .names .lengths)) ≡ true) where
+      pub no-names : every (every validByte) (names (m .header .names)) ≡ false → false ≡ soundHeader m
+      no-names e = sym (header-is ∙ simp (n, l, e))
 
-      pub no-names : every validName (names (m .header .names)) ≡ false → false ≡ soundHeader m
-      no-names e = sym (header-is ∙ simp (n, l, sym bytes ∙ e))
-
-      module _ (v : every validName (names (m .header .names)) ≡ true) where
+      module _ (v : every (every validByte) (names (m .header .names)) ≡ true) where
         pub not-distinct : distinct (names (m .header .names)) ≡ false → false ≡ soundHeader m
-        not-distinct e = sym (header-is ∙ simp (n, l, sym bytes ∙ v, e))
+        not-distinct e = sym (header-is ∙ simp (n, l, v, e))
 
         pub by-total : {t : ℕ} → distinct (names (m .header .names)) ≡ true → t ≡ total (take (m .header .names .held) (m .header .counts)) → eqb t (m .header .ring .length) ≡ soundHeader m
-        by-total e s = sym (header-is ∙ simp (n, l, sym bytes ∙ v, e) (ap (λ (k : ℕ). eqb k (m .header .ring .length)) (sym s)))
+        by-total e s = sym (header-is ∙ simp (n, l, v, e) (ap (λ (k : ℕ). eqb k (m .header .ring .length)) (sym s)))
 
 -- the test looks at these parts of a header alone
 pub by-parts : (core queue : List ℕ) (h : Header)

@@ -1,2 +1,3 @@
 pub mod Headers
+pub mod Bytes
 pub mod Keying

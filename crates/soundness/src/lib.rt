@@ -1,22 +1,21 @@
 // The tests of a lent record: its header, and the front entry (01, 'What a call gives back').
 ghost use mathlib.Core.Path.{_≡_};
 ghost use mathlib.Core.List.{[]};
-ghost use Prim.Native.Nat.{_+_, _-_, _≤_, _<_};
+ghost use Prim.Native.Nat.{ℕ, _+_, _-_, _≤_, _<_};
 ghost use lib.Dec.{eqb};
-ghost use lib.ListN.{length, take};
-ghost use Rattle.laws.specs.Lists.{every, tally, table, total, same, distinct};
-ghost use Rattle.metadata.specs.Metadata.{validName};
+ghost use lib.ListN.{length, getD, take, drop};
+ghost use Rattle.laws.specs.Lists.{oneIf, every, tally, table, total, same, distinct};
+ghost use Rattle.metadata.specs.Metadata.{validByte};
 ghost use Rattle.machine.specs.Names.{nameAt, names};
 ghost use Rattle.machine.specs.Soundness.{soundHeader, soundEntry};
 ghost use Rattle.lent.specs.Parts.{namesOf, headerOf, noRing, machineOf, validLength};
-ghost use Rattle.soundness.specs.inner.Keys.{keyOf, Keyed};
+ghost use Rattle.soundness.specs.inner.Keys.{keyOf, Keyed, timesIn};
 use encoding::byte;
 use entry::unpack;
 use machine::Ring;
 use machine::Rules;
 use machine::limits::LARGEST_CORE;
 use machine::limits::MOST_ENTRIES;
-use metadata::valid_name;
 use names::equal;
 use names::name_at;
 use offset::within;
@@ -41,14 +40,31 @@ fn lengths_valid(lengths: &[u8; 16], held: usize) -> bool
     true
 }
 
-// Whether each name held is valid.
+// Whether the bytes of the name that starts there are valid.
+fn bytes_valid(names: &[u8; 512], start: usize, size: usize) -> bool
+    requires { ⌜ (start + 32 ≤ 512) × (size ≤ 32) ⌝ }
+    ensures { λ r. ⌜ r ≡ every validByte (take size (drop start (now (names .entry)))) ⌝ }
+{
+    let bytes = &names[..];
+    let mut valid = true;
+    let mut j: usize = 0;
+    while j < 32 {
+        let b = bytes[start + j];
+        valid = valid & ((size <= j) | ((33 <= b) & (b <= 126)));
+        j += 1;
+    }
+    valid
+}
+
+// Whether the bytes of each name held are valid.
 fn names_valid<'a>(names: &'a [u8; 512], lengths: &'a [u8; 16], held: usize) -> bool
-    requires { ⌜ held ≤ 16 ⌝ }
-    ensures { λ r. ⌜ r ≡ every validName (table (nameAt (namesOf 0 (now (names .entry)) (now (lengths .entry)))) 0 held) ⌝ }
+    requires { ⌜ (held ≤ 16) × ((k : ℕ) → k < held → getD (now lengths) k 0 ≤ 32) ⌝ }
+    ensures { λ r. ⌜ r ≡ every (every validByte) (table (nameAt (namesOf 0 (now (names .entry)) (now (lengths .entry)))) 0 held) ⌝ }
 {
     let mut i: usize = 0;
     while i < held {
-        if !valid_name(name_at(names, lengths, i)) {
+        let size = lengths[i] as usize;
+        if !bytes_valid(names, 32 * i, size) {
             return false;
         }
         i += 1;
@@ -56,20 +72,20 @@ fn names_valid<'a>(names: &'a [u8; 512], lengths: &'a [u8; 16], held: usize) -> 
     true
 }
 
-// The key of a name: its length, and its first, second and last byte.
+// The key of a name: its length, and its first byte, the last but one and the last.
 fn key_of(name: &[u8]) -> u32
     ensures { λ r. ⌜ r ≡ keyOf (now (name .entry)) ⌝ }
 {
     let n = name.len();
-    if n == 0 {
-        return 0;
+    let first = byte(name, 0) as u32;
+    if n < 2 {
+        return n as u32 + first * 256 + first * 16777216;
     }
     let size = (n % 256) as u32;
-    let first = byte(name, 0) as u32;
-    let second = byte(name, 1) as u32;
     let end = n - 1;
+    let before = byte(name, end - 1) as u32;
     let last = byte(name, end) as u32;
-    let key = size + first * 256 + second * 65536 + last * 16777216;
+    let key = size + first * 256 + before * 65536 + last * 16777216;
     key
 }
 
@@ -88,25 +104,30 @@ fn keys_of<'a>(names: &'a [u8; 512], lengths: &'a [u8; 16], held: usize) -> [u32
     keys
 }
 
-// Whether two names held are alike: where their keys are, their bytes are compared.
-fn alike<'a>(
-    names: &'a [u8; 512],
-    lengths: &'a [u8; 16],
-    keys: &'a [u32; 16],
-    held: usize,
-    i: usize,
-    j: usize,
-) -> bool
-    requires { ⌜ Keyed (now names) (now lengths) (now keys) held × (held ≤ 16) × (i < held) × (j < held) ⌝ }
-    ensures { λ r. ⌜ r ≡ same (nameAt (namesOf 0 (now (names .entry)) (now (lengths .entry))) i) (nameAt (namesOf 0 (now (names .entry)) (now (lengths .entry))) j) ⌝ }
+// 1 where a test passes.
+fn one_if(test: bool) -> u32
+    ensures { λ r. ⌜ (r ≡ oneIf test) × (r ≤ 1) ⌝ }
 {
-    if keys[i] != keys[j] {
-        return false;
+    if test {
+        return 1;
     }
-    equal(name_at(names, lengths, i), name_at(names, lengths, j))
+    0
 }
 
-// Whether a name is unlike those held after it.
+// How many of the keys are this one.
+fn times(keys: &[u32; 16], key: u32) -> u32
+    ensures { λ r. ⌜ r ≡ timesIn (now (keys .entry)) key ⌝ }
+{
+    let mut n: u32 = 0;
+    let mut j: usize = 0;
+    while j < 16 {
+        n = n + one_if(keys[j] == key);
+        j += 1;
+    }
+    n
+}
+
+// Whether a name is unlike those held after it: where its key stands once, no bytes are compared.
 fn is_unlike<'a>(
     names: &'a [u8; 512],
     lengths: &'a [u8; 16],
@@ -118,9 +139,12 @@ fn is_unlike<'a>(
     ensures { λ r. ⌜ r ≡ eqb (tally (same (nameAt (namesOf 0 (now (names .entry)) (now (lengths .entry))) i))
         (table (nameAt (namesOf 0 (now (names .entry)) (now (lengths .entry)))) (i + 1) (held - (i + 1)))) 0 ⌝ }
 {
+    if times(keys, keys[i]) == 1 {
+        return true;
+    }
     let mut j = i + 1;
     while j < held {
-        if alike(names, lengths, keys, held, i, j) {
+        if equal(name_at(names, lengths, i), name_at(names, lengths, j)) {
             return false;
         }
         j += 1;
@@ -133,6 +157,9 @@ fn names_distinct<'a>(names: &'a [u8; 512], lengths: &'a [u8; 16], held: usize) 
     requires { ⌜ held ≤ 16 ⌝ }
     ensures { λ r. ⌜ r ≡ distinct (table (nameAt (namesOf 0 (now (names .entry)) (now (lengths .entry)))) 0 held) ⌝ }
 {
+    if held < 2 {
+        return true;
+    }
     let keys = keys_of(names, lengths, held);
     let mut i: usize = 0;
     while i < held {

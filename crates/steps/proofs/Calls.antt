@@ -12,7 +12,7 @@ use Rattle.machine.specs.declared.Ceiling.{Ceiling}
 use Rattle.machine.specs.declared.Ceiling.the-variants.{Steps}
 use Rattle.machine.specs.Run.{ceilingOf, run}
 use Rattle.lent.specs.Given.{given, givenBy}
-use Rattle.steps.specs.inner.Ready.{Sound}
+use Rattle.steps.proofs.Naming.{Sound}
 
 pub is-sound : (m : Machine) → soundHeader m ≡ true
     → (length (m .header .names .bytes) ≡ 512) × (length (m .header .names .lengths) ≡ 16) × (length (m .header .counts) ≡ 16) × (length (m .header .threads) ≡ 16) → Sound m

@@ -4,10 +4,10 @@ pub mod Arithmetic
 pub mod Acting
 pub mod Operating
 pub mod Executing
-pub mod Turns
+pub mod Queueing
 pub mod Naming
 pub mod Answers
-pub mod Loop
 pub mod Trust
-pub mod Looping
+pub mod Loop
+pub mod Rounds
 pub mod Calls

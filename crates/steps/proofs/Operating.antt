@@ -3,7 +3,7 @@
 use mathlib.Core.Path.{_≡_, sym, ap, ap₂, _∙_}
 use mathlib.Core.Bool.{true}
 use mathlib.Core.List.{List}
-use Prim.Native.Nat.{ℕ, _%_, _≤_, _<_, zero-le}
+use Prim.Native.Nat.{ℕ, _/_, _%_, _^_, _≤_, _<_, zero-le}
 use lib.ListN.{length, getD, set}
 use Rattle.laws.proofs.Cases.{span}
 use Rattle.offset.specs.declared.Absolute.{Absolute}
@@ -11,8 +11,9 @@ use Rattle.offset.specs.Offset.{ahead}
 use Rattle.cell.specs.Cells.{packed, unpacked, soundWord, number, withNumber}
 use Rattle.machine.specs.declared.Rules.{Rules}
 use Rattle.machine.specs.Pointers as machine
-use Rattle.machine.specs.Pointers.{shifts, keeps, used, more, shifted, siteAt, operand}
+use Rattle.machine.specs.Pointers.{shifts, keeps, shifted, siteAt, operand}
 use Rattle.word.specs.Words.{fieldBy}
+use Rattle.address.specs.Rounding.{incremented, aimed}
 use Rattle.address.specs.inner.Operands.{soundSeen, Ready}
 use Rattle.address.proofs.Pointing as law
 use Rattle.steps.specs.declared.operand.Operand.{Operand}
@@ -32,40 +33,40 @@ module _ (rules : Rules) (core : List ℕ) (pc mode n : ℕ) where
   gives : {pointer : Absolute} {register : ℕ} {l : List ℕ} → law.Points rules core pc mode n (pointer .0) register l → Gives (record { pointer = pointer; register = register }) l
   gives p = (λ i. record { pointer = record { 0 = sym (p .reads) i }; register = p .copies i }, p .leaves)
 
-  module _ (k : Ready rules core pc n) (seen : soundSeen size its ≡ true) (location : Absolute) (is : location .0 ≡ ahead size pc n) where
+  pub hash : (pc′ : Absolute) → pc′ .0 ≡ pc → (here : ℕ) → here ≡ getD core pc 0 → soundWord size here ≡ true → mode ≡ 0
+      → Gives (record { pointer = pc′; register = here }) core
+  hash pc′ ep here eh s e = gives {pointer = pc′} (rw (ep, eh) (law.hash rules core pc mode n (rw eh at s) e))
+
+  module _ (seen : soundSeen size its ≡ true) (location : Absolute) (is : location .0 ≡ ahead size pc n) where
     there-sound : soundWord size (getD core (location .0) 0) ≡ true
     there-sound = rw is (law.read-sound rules core pc mode n seen)
 
-    pub hash : (pc′ : Absolute) → pc′ .0 ≡ pc → (here : ℕ) → here ≡ getD core pc 0 → soundWord size here ≡ true → mode ≡ 0
-        → Gives (record { pointer = pc′; register = here }) core
-    hash pc′ ep here eh s e =
-        gives {pointer = pc′} (rw (ep, eh) (law.hash rules core pc mode n k (location .0) is there-sound (rw eh at s) e))
-
     pub dollar : mode ≡ 1 → Gives (record { pointer = location; register = getD core (location .0) 0 }) core
-    dollar e = gives {pointer = location} (law.dollar rules core pc mode n k (location .0) is there-sound e)
+    dollar e = gives {pointer = location} (law.dollar rules core pc mode n (location .0) is there-sound e)
 
-    module _ (two : 2 ≤ mode) (eight : mode < 8) (found to : ℕ) (pointer : Absolute) (es : found ≡ number (fieldBy (mode % 2)) (unpacked (getD core (location .0) 0)))
-        (et : to ≡ used (getD shifts mode keeps) size found) (ep : pointer .0 ≡ ahead size (location .0) to) where
+    module _ (k : Ready rules core pc n) (two : 2 ≤ mode) (eight : mode < 8) (found to : ℕ) (pointer : Absolute)
+        (es : found ≡ number (fieldBy (mode % 2)) (unpacked (getD core (location .0) 0))) (et : to ≡ aimed (getD shifts mode keeps) size found)
+        (ep : pointer .0 ≡ ahead size (location .0) to) where
       pointed : soundWord size (getD core (pointer .0) 0) ≡ true
       pointed =
-          rw (← law.points rules core pc mode n k (location .0) is two eight there-sound found to (pointer .0) es et ep)
+          rw (← law.points rules core pc mode n (location .0) is there-sound two eight found to (pointer .0) es et ep)
           (law.pointer-sound rules core pc mode n k seen)
 
       pub plain : mode < 4 → Gives (record { pointer = pointer; register = getD core (pointer .0) 0 }) core
-      plain l = gives {pointer = pointer} (law.plain rules core pc mode n k (location .0) is two eight there-sound found to (pointer .0) es et ep pointed l)
+      plain l = gives {pointer = pointer} (law.plain rules core pc mode n (location .0) is there-sound two eight found to (pointer .0) es et ep pointed l)
 
       module _ (l : List ℕ) (word : ℕ) (el : l ≡ set core (location .0) word) where
         pub lower : 4 ≤ mode → mode < 6 → word ≡ packed (withNumber (fieldBy (mode % 2)) to (unpacked (getD core (location .0) 0)))
             → (register : ℕ) → register ≡ getD (set core (location .0) word) (pointer .0) 0
             → Gives (record { pointer = pointer; register = register }) l
         lower p q ew register er =
-            gives {pointer = pointer} (law.lower rules core pc mode n k (location .0) is two eight there-sound found to (pointer .0) es et ep pointed l word el p q ew register er)
+            gives {pointer = pointer} (law.lower rules core pc mode n (location .0) is there-sound two eight found to (pointer .0) es et ep pointed l word el (k .valid) p q ew register er)
 
-        pub raise : 6 ≤ mode → (up : ℕ) → up ≡ more size found → word ≡ packed (withNumber (fieldBy (mode % 2)) up (unpacked (getD core (location .0) 0)))
+        pub raise : 6 ≤ mode → (up : ℕ) → up ≡ incremented size found → word ≡ packed (withNumber (fieldBy (mode % 2)) up (unpacked (getD core (location .0) 0)))
             → (register : ℕ) → register ≡ getD core (pointer .0) 0
             → Gives (record { pointer = pointer; register = register }) l
         raise p up eu ew register er =
-            gives {pointer = pointer} (law.raise rules core pc mode n k (location .0) is two eight there-sound found to (pointer .0) es et ep pointed l word el p up eu ew register er)
+            gives {pointer = pointer} (law.raise rules core pc mode n (location .0) is there-sound two eight found to (pointer .0) es et ep pointed l word el p up eu ew register er)
 
 -- the same mode and number by other names
 pub same-operand : (rules : Rules) (core : List ℕ) (pc : ℕ) {m n m' n' : ℕ} → m ≡ m' → n ≡ n' → operand (siteAt rules pc) core m n ≡ operand (siteAt rules pc) core m' n'
@@ -78,8 +79,6 @@ pub still-seen : (size : ℕ) {o p : machine.Operand} → o ≡ p → soundSeen 
 still-seen size e h = ap (soundSeen size) e ∙ h
 
 -- the writes of an operand, by its mode
-pub no-change : (mode : ℕ) → mode < 4 → 0 ≡ length (shifted (getD shifts mode keeps) 0)
-no-change mode h = span mode 0 4 zero-le h (λ e. rw e, (λ e. rw e, (λ e. rw e, (λ e. rw e, tt))))
-
-pub one-change : (mode : ℕ) → 4 ≤ mode → mode < 8 → 1 ≡ length (shifted (getD shifts mode keeps) 0)
-one-change mode l h = span mode 4 4 l h (λ e. rw e, (λ e. rw e, (λ e. rw e, (λ e. rw e, tt))))
+pub writes-by-mode : (mode : ℕ) → mode < 8 → mode / 2 ^ 2 ≡ length (shifted (getD shifts mode keeps) 0)
+writes-by-mode mode h =
+    span mode 0 8 zero-le h (λ e. rw e, (λ e. rw e, (λ e. rw e, (λ e. rw e, (λ e. rw e, (λ e. rw e, (λ e. rw e, (λ e. rw e, tt))))))))

@@ -16,9 +16,9 @@ mod execute;
 mod modifier;
 mod opcode;
 mod operand;
+mod ring;
 mod running;
 mod stepping;
-mod turn;
 
 // What a run answers, with its writes and steps, and the ring and the steps taken afterwards.
 pub struct Ran {

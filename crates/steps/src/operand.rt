@@ -9,11 +9,11 @@ ghost use Rattle.machine.specs.Instruction.{fetched, aOperand};
 ghost use Rattle.address.specs.inner.Operands.{Ready, Fetched, soundSeen};
 ghost use Rattle.steps.specs.inner.Instruction.{operandOf};
 use address::aim;
+use address::increment;
 use machine::Rules;
 use offset::Absolute;
 use offset::Relative;
 use offset::add;
-use offset::plus;
 use types::mode::IMMEDIATE;
 use types::mode::INDIRECT_A;
 use types::mode::POST_INC_INDIRECT_A;
@@ -36,15 +36,15 @@ fn direct(core: &[u64], rules: Rules, pc: Absolute, here: u64, mode: u64, n: Rel
     ensures { λ r. ⌜ (r ≡ operandOf (spec.operand (spec.siteAt rules (pc .0)) (now (core .entry)) mode (n .0)))
         × (now (core .entry) ≡ spec.operand (spec.siteAt rules (pc .0)) (now (core .entry)) mode (n .0) .core) ⌝ }
 {
-    let location = add(pc, n, rules.size);
-    let at = location.0 as usize;
-    let there = core[at];
     if mode == IMMEDIATE {
         return Operand {
             pointer: pc,
             register: here,
         };
     }
+    let location = add(pc, n, rules.size);
+    let at = location.0 as usize;
+    let there = core[at];
     Operand {
         pointer: location,
         register: there,
@@ -98,7 +98,7 @@ fn indirect(core: &mut [u64], rules: Rules, pc: Absolute, mode: u64, n: Relative
         let register = lower(core, at, there, with_number(old, field, to));
         return Operand { pointer, register };
     }
-    let more = plus(found, Relative(1), size);
+    let more = increment(found, size);
     let register = raise(core, at, there, with_number(old, field, more));
     Operand { pointer, register }
 }
@@ -138,8 +138,6 @@ pub(crate) fn changes(mode: u64) -> u32
     requires { ⌜ mode < 8 ⌝ }
     ensures { λ r. ⌜ r ≡ length (spec.shifted (getD spec.shifts mode spec.keeps) 0) ⌝ }
 {
-    if mode < PRE_DEC_INDIRECT_A {
-        return 0;
-    }
-    1
+    let writes = (mode >> 2) as u32;
+    writes
 }

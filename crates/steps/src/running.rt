@@ -1,24 +1,25 @@
 // The run loop on the lent parts of a record whose header is sound, without its names (01, 'One step', its last paragraph).
 ghost use mathlib.Core.Path.{_≡_};
-ghost use mathlib.Core.Bool.{true};
-ghost use lib.Dec.{eqb, leb};
-ghost use lib.ListN.{take};
-ghost use Rattle.laws.specs.Lists.{every};
-ghost use Rattle.answer.specs.Numbers.{told};
-ghost use Rattle.machine.specs.declared.Ceiling.the-variants.{Steps};
-ghost use Rattle.machine.specs.Step as one;
-ghost use Rattle.machine.specs.Run as spec;
+ghost use mathlib.Core.Bool.{true, cond};
+ghost use Prim.Native.Nat.{_+_, _-_, _≤_};
+ghost use lib.Dec.{eqb};
+ghost use Rattle.answer.specs.Numbers.{told, gives};
+ghost use Rattle.refusal.specs.Checks as check;
 ghost use Rattle.lent.specs.Parts.{unnamed};
-ghost use Rattle.steps.specs.inner.Ready.{Ready, Plays, Scanned, Gives};
+ghost use Rattle.lent.specs.Given.{given, givenBy};
+ghost use Rattle.steps.specs.inner.Ready.{Ready, playsOf, Plays, Scanned, ranOf};
 use crate::Ran;
+use crate::stepping::fetch;
 use crate::stepping::step_once;
 use answer::Answer;
 use answer::number;
 use machine::Ring;
 use machine::Rules;
-use machine::limits::LAST_NUMBER;
+use queue::slot_ahead;
 use refusal::refusal;
 use scan::scan;
+use types::opcode::NOP;
+use word::opcode;
 
 // Whether an answer is 0.
 fn is_done(answer: Answer) -> bool
@@ -27,7 +28,22 @@ fn is_done(answer: Answer) -> bool
     number(answer) == 0
 }
 
-// Steps while steps taken are below a ceiling, up to the first answer not 0, where each can be refused by 7 or 10 only.
+// What a run gives, from the steps taken before and after it.
+fn ran(answer: Answer, writes: u64, head: u32, length: u32, before: u32, taken: u32) -> Ran
+    requires { ⌜ before ≤ taken ⌝ }
+    ensures { λ r. ⌜ r ≡ ranOf answer writes head length before taken ⌝ }
+{
+    let steps = (taken - before) as u64;
+    Ran {
+        answer,
+        writes,
+        steps,
+        ring: Ring { head, length },
+        taken,
+    }
+}
+
+// Steps while steps taken are below a ceiling, up to the first answer not 0, where each can be refused by 10 only.
 fn play(
     core: &mut [u64],
     queue: &mut [u64],
@@ -40,51 +56,64 @@ fn play(
     until: u64,
 ) -> Ran
     requires { ⌜ Ready (unnamed (now core) (now queue) rules ring taken held (now counts) (now threads)) × Plays until (unnamed (now core) (now queue) rules ring taken held (now counts) (now threads)) ⌝ }
-    ensures { λ r. ⌜ Gives (spec.run (Steps until)) (unnamed (now (core .entry)) (now (queue .entry)) rules ring taken held (now (counts .entry)) (now (threads .entry)))
-        (r .answer) (r .writes) (r .steps) (unnamed (now (core .exit)) (now (queue .exit)) rules (r .ring) (r .taken) held (now (counts .exit)) (now (threads .exit))) ⌝ }
+    ensures { λ r. ⌜ given (told (r .answer)) (r .writes) (r .steps) (unnamed (now (core .exit)) (now (queue .exit)) rules (r .ring) (r .taken) held (now (counts .exit)) (now (threads .exit)))
+        ≡ givenBy (playsOf (until - taken) (unnamed (now (core .entry)) (now (queue .entry)) rules ring taken held (now (counts .entry)) (now (threads .entry)))) ⌝ }
 {
     let mut head = ring.head;
     let mut length = ring.length;
+    let mut tail = slot_ahead(head, length, queue.len() as u32);
     let mut done = taken;
     let mut writes: u64 = 0;
     while (done as u64) < until {
-        let s = step_once(
-            core,
-            queue,
-            counts,
-            threads,
-            rules,
-            held,
-            Ring { head, length },
-            done,
-        );
+        let f = fetch(core, queue, head);
+        if opcode(f.cell) > NOP {
+            return ran(Answer::PrivateMemory, writes, head, length, taken, done);
+        }
+        let s = step_once(core, queue, counts, threads, rules, head, tail, length, f);
         head = s.head;
+        tail = s.tail;
         length = s.length;
-        done = s.taken;
+        done = done + 1;
         writes = writes + s.writes as u64;
         let answer = s.answer;
         if !is_done(answer) {
-            let steps = (done - taken) as u64;
-            return Ran {
-                answer,
-                writes,
-                steps,
-                ring: Ring { head, length },
-                taken: done,
-            };
+            return ran(answer, writes, head, length, taken, done);
         }
     }
-    let steps = (done - taken) as u64;
-    Ran {
-        answer: Answer::Done,
-        writes,
-        steps,
-        ring: Ring { head, length },
-        taken: done,
-    }
+    ran(Answer::Done, writes, head, length, taken, done)
 }
 
-// The next step, its refusal asked first.
+// The refusal of the next step: 0, and not asked, where the record is trusted.
+fn asked<'a>(
+    core: &[u64],
+    queue: &[u64],
+    counts: &'a [u32; 16],
+    threads: &'a [u32; 16],
+    rules: Rules,
+    held: u32,
+    ring: Ring,
+    taken: u32,
+    trusted: bool,
+) -> Answer
+    ensures { λ r. ⌜ told r ≡ cond trusted (gives 0 0) (check.refused (unnamed (now (core .entry)) (now (queue .entry)) rules ring taken held (now (counts .entry)) (now (threads .entry)))) ⌝ }
+{
+    if trusted {
+        return Answer::Done;
+    }
+    refusal(core, queue, counts, threads, rules, held, ring, taken)
+}
+
+// Up to which number of steps taken to play.
+fn limit(ceiling: u64, taken: u32, trusted: bool) -> u64
+    ensures { λ r. ⌜ r ≡ cond trusted ceiling (taken + 1) ⌝ }
+{
+    if trusted {
+        return ceiling;
+    }
+    taken as u64 + 1
+}
+
+// The steps up to the ceiling where the record is trusted; else the next step, its refusal asked first.
 fn ask(
     core: &mut [u64],
     queue: &mut [u64],
@@ -94,22 +123,28 @@ fn ask(
     held: u32,
     ring: Ring,
     taken: u32,
+    ceiling: u64,
+    trusted: bool,
 ) -> Ran
-    requires { ⌜ Ready (unnamed (now core) (now queue) rules ring taken held (now counts) (now threads)) ⌝ }
-    ensures { λ r. ⌜ Gives one.step (unnamed (now (core .entry)) (now (queue .entry)) rules ring taken held (now (counts .entry)) (now (threads .entry)))
-        (r .answer) (r .writes) (r .steps) (unnamed (now (core .exit)) (now (queue .exit)) rules (r .ring) (r .taken) held (now (counts .exit)) (now (threads .exit))) ⌝ }
+    requires { ⌜ Ready (unnamed (now core) (now queue) rules ring taken held (now counts) (now threads)) × (trusted ≡ true → Scanned ceiling (unnamed (now core) (now queue) rules ring taken held (now counts) (now threads))) ⌝ }
+    ensures { λ r. ⌜ given (told (r .answer)) (r .writes) (r .steps) (unnamed (now (core .exit)) (now (queue .exit)) rules (r .ring) (r .taken) held (now (counts .exit)) (now (threads .exit)))
+        ≡ givenBy (playsOf (cond trusted ceiling (taken + 1) - taken) (unnamed (now (core .entry)) (now (queue .entry)) rules ring taken held (now (counts .entry)) (now (threads .entry)))) ⌝ }
 {
-    let refused = refusal(core, queue, counts, threads, rules, held, ring, taken);
+    let refused = asked(
+        core,
+        queue,
+        counts,
+        threads,
+        rules,
+        held,
+        ring,
+        taken,
+        trusted,
+    );
     if !is_done(refused) {
-        return Ran {
-            answer: refused,
-            writes: 0,
-            steps: 0,
-            ring,
-            taken,
-        };
+        return ran(refused, 0, ring.head, ring.length, taken, taken);
     }
-    let until = taken as u64 + 1;
+    let until = limit(ceiling, taken, trusted);
     play(
         core,
         queue,
@@ -121,87 +156,6 @@ fn ask(
         taken,
         until,
     )
-}
-
-// Steps while steps taken are below the ceiling, up to the first answer not 0, the refusal of each asked first.
-fn ask_each(
-    core: &mut [u64],
-    queue: &mut [u64],
-    counts: &mut [u32; 16],
-    threads: &mut [u32; 16],
-    rules: Rules,
-    held: u32,
-    ring: Ring,
-    taken: u32,
-    ceiling: u64,
-) -> Ran
-    requires { ⌜ Ready (unnamed (now core) (now queue) rules ring taken held (now counts) (now threads)) ⌝ }
-    ensures { λ r. ⌜ Gives (spec.run (Steps ceiling)) (unnamed (now (core .entry)) (now (queue .entry)) rules ring taken held (now (counts .entry)) (now (threads .entry)))
-        (r .answer) (r .writes) (r .steps) (unnamed (now (core .exit)) (now (queue .exit)) rules (r .ring) (r .taken) held (now (counts .exit)) (now (threads .exit))) ⌝ }
-{
-    let mut head = ring.head;
-    let mut length = ring.length;
-    let mut done = taken;
-    let mut writes: u64 = 0;
-    while (done as u64) < ceiling {
-        let s = ask(
-            core,
-            queue,
-            counts,
-            threads,
-            rules,
-            held,
-            Ring { head, length },
-            done,
-        );
-        let after = s.ring;
-        head = after.head;
-        length = after.length;
-        done = s.taken;
-        writes = writes + s.writes;
-        let answer = s.answer;
-        if !is_done(answer) {
-            let steps = (done - taken) as u64;
-            return Ran {
-                answer,
-                writes,
-                steps,
-                ring: Ring { head, length },
-                taken: done,
-            };
-        }
-    }
-    let steps = (done - taken) as u64;
-    Ran {
-        answer: Answer::Done,
-        writes,
-        steps,
-        ring: Ring { head, length },
-        taken: done,
-    }
-}
-
-// Whether a number is at most the last.
-fn fits(n: u32) -> bool
-    ensures { λ r. ⌜ r ≡ leb n 4294967295 ⌝ }
-{
-    n <= LAST_NUMBER
-}
-
-// The same of each next thread number: so it is, by its type.
-fn threads_fit(threads: &[u32; 16]) -> bool
-    ensures { λ r. ⌜ r ≡ every (λ n. leb n 4294967295) (take 16 (now (threads .entry))) ⌝ }
-{
-    let numbers = &threads[..];
-    let mut i: usize = 0;
-    while i < 16 {
-        let n = numbers[i];
-        if !fits(n) {
-            return false;
-        }
-        i += 1;
-    }
-    true
 }
 
 // Whether a scan of the whole record pays, and the record passes it.
@@ -227,7 +181,7 @@ fn trusts<'a>(
     if steps < least {
         return false;
     }
-    if !threads_fit(threads) {
+    if ring.length == 0 {
         return false;
     }
     scan(
@@ -256,10 +210,10 @@ pub(crate) fn run_loop(
     ceiling: u64,
 ) -> Ran
     requires { ⌜ Ready (unnamed (now core) (now queue) rules ring taken held (now counts) (now threads)) ⌝ }
-    ensures { λ r. ⌜ Gives (spec.run (Steps ceiling)) (unnamed (now (core .entry)) (now (queue .entry)) rules ring taken held (now (counts .entry)) (now (threads .entry)))
-        (r .answer) (r .writes) (r .steps) (unnamed (now (core .exit)) (now (queue .exit)) rules (r .ring) (r .taken) held (now (counts .exit)) (now (threads .exit))) ⌝ }
+    ensures { λ r. ⌜ given (told (r .answer)) (r .writes) (r .steps) (unnamed (now (core .exit)) (now (queue .exit)) rules (r .ring) (r .taken) held (now (counts .exit)) (now (threads .exit)))
+        ≡ givenBy (playsOf (ceiling - taken) (unnamed (now (core .entry)) (now (queue .entry)) rules ring taken held (now (counts .entry)) (now (threads .entry)))) ⌝ }
 {
-    if trusts(
+    let trusted = trusts(
         core,
         queue,
         counts,
@@ -269,28 +223,33 @@ pub(crate) fn run_loop(
         ring,
         taken,
         ceiling,
-    ) {
-        return play(
+    );
+    let mut head = ring.head;
+    let mut length = ring.length;
+    let mut done = taken;
+    let mut writes: u64 = 0;
+    while (done as u64) < ceiling {
+        let s = ask(
             core,
             queue,
             counts,
             threads,
             rules,
             held,
-            ring,
-            taken,
+            Ring { head, length },
+            done,
             ceiling,
+            trusted,
         );
+        let after = s.ring;
+        head = after.head;
+        length = after.length;
+        done = s.taken;
+        writes = writes + s.writes;
+        let answer = s.answer;
+        if !is_done(answer) {
+            return ran(answer, writes, head, length, taken, done);
+        }
     }
-    ask_each(
-        core,
-        queue,
-        counts,
-        threads,
-        rules,
-        held,
-        ring,
-        taken,
-        ceiling,
-    )
+    ran(Answer::Done, writes, head, length, taken, done)
 }

@@ -105,7 +105,10 @@ pub extern "C" fn sumacadze_step(core: &mut [u64], queue: &mut [u64], header: &m
         ≡ givenBy (one.step (machineOf (now (core .entry)) (now (queue .entry)) (now (header .entry)))) ⌝ }
 {
     let s = cycle::step(core, queue, *header);
-    *header = s.header;
+    header.ring = s.header.ring;
+    header.steps = s.header.steps;
+    header.counts = s.header.counts;
+    header.threads = s.header.threads;
     in_numbers(s.answer, s.writes, s.steps)
 }
 
@@ -122,6 +125,9 @@ pub extern "C" fn sumacadze_run(
         ≡ givenBy (running.run (ceilingIf said ceiling) (machineOf (now (core .entry)) (now (queue .entry)) (now (header .entry)))) ⌝ }
 {
     let s = by_value::run(core, queue, *header, said, ceiling);
-    *header = s.header;
+    header.ring = s.header.ring;
+    header.steps = s.header.steps;
+    header.counts = s.header.counts;
+    header.threads = s.header.threads;
     in_numbers(s.answer, s.writes, s.steps)
 }

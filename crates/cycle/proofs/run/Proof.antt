@@ -22,7 +22,7 @@ same-length-2 c = search needs
 returns : tie.Need-returns
 returns c =
     let a = c .before .before .before .before .before .before .before .before .before .before .before .before .before .before .before .before .before .before .before .before .args in
-    c .before .before .before .before .before .run-parts .ensures ∙ run-by (a .ceiling) (machineOf (a .core .now) (a .queue .now) (a .t3)) (c .before .before .before .before .before .before .before .before .before .before .before .before .before .before .before .ceiling-of .ensures)
+    c .before .before .before .before .before .run-parts .ensures ∙ run-by (a .ceiling) (machineOf (a .core .now) (a .queue .now) (a .h)) (c .before .before .before .before .before .before .before .before .before .before .before .before .before .ceiling-of .ensures)
 
 pub run-spec : {M : Type 1} → statement M
 run-spec =

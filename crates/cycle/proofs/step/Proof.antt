@@ -25,8 +25,8 @@ same-length-2 c = search needs
 
 returns : tie.Need-returns
 returns c =
-    let a = c .before .before .before .before .before .before .before .before .before .before .before .before .before .before .before .before .before .before .before .args in
-    c .before .before .before .before .before .run-parts .ensures ∙ ap givenBy (run-one (machineOf (a .core .now) (a .queue .now) (a .t3)))
+    let a = c .before .before .before .before .before .before .before .before .before .before .before .before .before .before .before .before .before .before .before .before .args in
+    c .before .before .before .before .before .run-parts .ensures ∙ ap givenBy (run-one (machineOf (a .core .now) (a .queue .now) (a .h)))
 
 pub step-spec : {M : Type 1} → statement M
 step-spec =

@@ -3,16 +3,17 @@
 use borrow.Author.Needs.{needs}
 use Rattle.refusal.proofs.refusal.Statement.{statement}
 use Rattle.refusal.proofs.refusal.Tie as tie
-use mathlib.Core.Path.{_≡_, ap, _∙_}
+use mathlib.Core.Path.{_≡_, sym, ap, _∙_}
 use mathlib.Core.Bool.{true}
 use native.Mathlib.Omega.{arith}
 use Rattle.laws.proofs.Tests.{refuted, upheld}
 use Rattle.machine.specs.declared.Entry.{Entry}
 use Rattle.machine.specs.State.{Machine}
+use Rattle.machine.specs.Soundness.{soundFront}
 use Rattle.lent.specs.Parts.{unnamed}
 use Rattle.soundness.proofs.Headers.{entry-by-parts}
-use Rattle.refusal.specs.Checks.{within}
-use Rattle.refusal.proofs.Refusing.{within-tests, not-within, head-below, size-most, cells, empty, unsound-front, place-below, steps-end, thread-end, by-cell}
+use Rattle.refusal.specs.Checks.{inBounds}
+use Rattle.refusal.proofs.Refusing.{in-bounds-tests, out-of-bounds, head-below, size-most, cells, empty, unsound-front, place-below, numbers-end, by-cell}
 
 -- the machine of the lent parts
 abbrev lent : (c : tie.Start) → Machine
@@ -20,20 +21,28 @@ lent c =
     let a = c .args in
     unnamed (a .core .now) (a .queue .now) (a .rules) (a .ring) (a .taken) (a .held) (a .counts .now) (a .threads .now)
 
-is-within : (c : tie.Else1) → within (lent (c .before .before .before .before .before .before .before)) ≡ true
-is-within c = upheld (within-tests (lent (c .before .before .before .before .before .before .before))) (c .if1 .left)
+is-in-bounds : (c : tie.Else1) → inBounds (lent (c .before .before .before .before .before .before .before)) ≡ true
+is-in-bounds c = upheld (in-bounds-tests (lent (c .before .before .before .before .before .before .before))) (c .if1 .left)
 
-cast-within : tie.Need-cast-within
-cast-within c = search needs
+front-sound : (c : tie.Else3) → soundFront (lent (c .before .before .before .before .before .before .before .before .before .before .before .before .before)) ≡ true
+front-sound c = upheld (c .before .sound-front .ensures ∙ entry-by-parts (lent (c .before .before .before .before .before .before .before .before .before .before .before .before .before) .header) _) (c .if3 .left)
 
-cast-within-2 : tie.Need-cast-within-2
-cast-within-2 c = search needs
+cast-in-bounds : tie.Need-cast-in-bounds
+cast-in-bounds c = search needs
+
+cast-in-bounds-2 : tie.Need-cast-in-bounds-2
+cast-in-bounds-2 c = search needs
 
 returns : tie.Need-returns
-returns c = not-within (lent (c .before .before .before .before .before .before .before)) (refuted (within-tests (lent (c .before .before .before .before .before .before .before))) (c .if1 .taken))
+returns c =
+    let c7 = c .before .before .before .before .before .before .before in
+    out-of-bounds (lent c7) (refuted (in-bounds-tests (lent c7)) (c .if1 .taken))
 
 returns-2 : tie.Need-returns-2
-returns-2 c = empty (lent (c .before .before .before .before .before .before .before .before .before)) (is-within (c .before .before)) (c .if2 .taken)
+returns-2 c =
+    let c2 = c .before .before in
+    let c9 = c2 .before .before .before .before .before .before .before in
+    empty (lent c9) (is-in-bounds c2) (c .if2 .taken)
 
 cast-head : tie.Need-cast-head
 cast-head c = search needs
@@ -42,7 +51,10 @@ mul-w : tie.Need-mul-w
 mul-w c = search needs
 
 shared-slice-read-w : tie.Need-shared-slice-read-w
-shared-slice-read-w c = head-below (lent (c .before .before .before .before .before .before .before .before .before .before .before)) (is-within (c .before .before .before .before))
+shared-slice-read-w c =
+    let c4 = c .before .before .before .before in
+    let c11 = c4 .before .before .before .before .before .before .before in
+    head-below (lent c11) (is-in-bounds c4)
 
 sound-front-requires : tie.Need-sound-front-requires
 sound-front-requires c κs = search needs
@@ -52,71 +64,49 @@ returns-3 c =
     let c4 = c .before .before .before .before in
     let c6 = c4 .before .before in
     let c13 = c6 .before .before .before .before .before .before .before in
-    unsound-front (lent (c13)) (is-within (c6)) (c4 .if2 .left) (refuted (c .before .sound-front .ensures ∙ entry-by-parts ((lent (c13)) .header) _)
-    (c .if3 .taken))
-
-returns-4 : tie.Need-returns-4
-returns-4 c =
-    let c2 = c .before .before in
-    let c5 = c2 .before .before .before in
-    let c7 = c5 .before .before in
-    let c14 = c7 .before .before .before .before .before .before .before in
-    steps-end (lent (c14)) (is-within (c7)) (c5 .if2 .left) (upheld (c2 .sound-front .ensures ∙ entry-by-parts ((lent (c14)) .header) _)
-    (c .before .if3 .left)) (c .if4 .taken)
+    unsound-front (lent c13) (is-in-bounds c6) (c4 .if2 .left) (refuted (c .before .sound-front .ensures ∙ entry-by-parts (lent c13 .header) _) (c .if3 .taken))
 
 unpack-requires : tie.Need-unpack-requires
 unpack-requires c κs = search needs
 
-cast-who : tie.Need-cast-who
-cast-who c = search needs
+exhausted-requires : tie.Need-exhausted-requires
+exhausted-requires c κs = rw (ap (λ (e : Entry). e .name) (c .unpack .ensures)) (omega arith)
 
-mul-thread : tie.Need-mul-thread
-mul-thread c = search needs
-
-element-copy-out-thread : tie.Need-element-copy-out-thread
-element-copy-out-thread c = rw (ap (λ (e : Entry). e .name) (c .before .unpack .ensures)) (omega arith)
-
-returns-5 : tie.Need-returns-5
-returns-5 c =
-    let c3 = c .before .before .before in
-    let c4 = c3 .before in
-    let c5 = c4 .before in
-    let c6 = c5 .before in
-    let c9 = c6 .before .before .before in
-    let c11 = c9 .before .before in
-    let c18 = c11 .before .before .before .before .before .before .before in
-    thread-end (lent (c18)) (is-within (c11)) (c9 .if2 .left) (upheld (c6 .sound-front .ensures ∙ entry-by-parts ((lent (c18)) .header) _)
-    (c5 .if3 .left)) (c4 .if4 .left) (rw (ap (λ (e : Entry). e .name) (c3 .unpack .ensures)) at (c .if5 .taken))
+returns-4 : tie.Need-returns-4
+returns-4 c =
+    let c2 = c .before .before in
+    let c3 = c2 .before in
+    let c7 = c3 .before .before .before .before in
+    let c9 = c7 .before .before in
+    let c16 = c9 .before .before .before .before .before .before .before in
+    numbers-end (lent c16) (is-in-bounds c9) (c7 .if2 .left) (front-sound c3) (rw (ap (λ (e : Entry). e .name) (c2 .unpack .ensures)) at (sym (c .before .exhausted .ensures) ∙ c .if4 .taken))
 
 cell-refusal-requires : tie.Need-cell-refusal-requires
 cell-refusal-requires c κs =
-    let c3 = c .before .before .before in
-    let c5 = c3 .before .before in
-    let c6 = c5 .before in
-    let c9 = c6 .before .before .before in
-    let c11 = c9 .before .before in
-    let c18 = c11 .before .before .before .before .before .before .before in
-    (size-most (lent (c18)) (is-within (c11)), cells (lent (c18)) (is-within (c11)), rw (c3 .unpack .ensures) (place-below (lent (c18)) (is-within (c11)) (c9 .if2 .left) (upheld (c6 .sound-front .ensures ∙ entry-by-parts ((lent (c18)) .header) _) (c5 .if3 .left))))
+    let c2 = c .before .before in
+    let c3 = c2 .before in
+    let c7 = c3 .before .before .before .before in
+    let c9 = c7 .before .before in
+    let c16 = c9 .before .before .before .before .before .before .before in
+    (size-most (lent c16) (is-in-bounds c9), cells (lent c16) (is-in-bounds c9), rw (c2 .unpack .ensures) (place-below (lent c16) (is-in-bounds c9) (c7 .if2 .left) (front-sound c3)))
 
-returns-6 : tie.Need-returns-6
-returns-6 c =
-    let c4 = c .before .before .before .before in
-    let c5 = c4 .before in
-    let c6 = c5 .before in
-    let c7 = c6 .before in
-    let c10 = c7 .before .before .before in
-    let c12 = c10 .before .before in
-    let c19 = c12 .before .before .before .before .before .before .before in
-    by-cell (lent (c19)) (is-within (c12)) (c10 .if2 .left) (upheld (c7 .sound-front .ensures ∙ entry-by-parts ((lent (c19)) .header) _)
-    (c6 .if3 .left)) (c5 .if4 .left) (rw (ap (λ (e : Entry). e .name) (c4 .unpack .ensures)) at (c .before .if5 .left))
-    (rw (c4 .unpack .ensures) at (c .cell-refusal .ensures))
+returns-5 : tie.Need-returns-5
+returns-5 c =
+    let c2 = c .before .before in
+    let c3 = c2 .before in
+    let c4 = c3 .before in
+    let c8 = c4 .before .before .before .before in
+    let c10 = c8 .before .before in
+    let c17 = c10 .before .before .before .before .before .before .before in
+    by-cell (lent c17) (is-in-bounds c10) (c8 .if2 .left) (front-sound c4) (rw (ap (λ (e : Entry). e .name) (c3 .unpack .ensures)) at (sym (c2 .exhausted .ensures) ∙ c .before .if4 .left))
+    (rw (c3 .unpack .ensures) at (c .cell-refusal .ensures))
 
 pub refusal-spec : {M : Type 1} → statement M
 refusal-spec =
     tie.close
     (tie.spec
-    cast-within
-    cast-within-2
+    cast-in-bounds
+    cast-in-bounds-2
     returns
     returns-2
     cast-head
@@ -124,11 +114,8 @@ refusal-spec =
     shared-slice-read-w
     sound-front-requires
     returns-3
-    returns-4
     unpack-requires
-    cast-who
-    mul-thread
-    element-copy-out-thread
-    returns-5
+    exhausted-requires
+    returns-4
     cell-refusal-requires
-    returns-6)
+    returns-5)

@@ -18,6 +18,12 @@ loop-holds c = search needs
 call-requires : tie.Need-call-requires Inv-loop μ-loop
 call-requires c κs = search needs
 
+tell-requires : tie.Need-tell-requires Inv-loop μ-loop
+tell-requires c κs = search needs
+
+next-requires : tie.Need-next-requires Inv-loop μ-loop
+next-requires c κs = search needs
+
 sub-left : tie.Need-sub-left Inv-loop μ-loop
 sub-left c = search needs
 
@@ -44,6 +50,8 @@ calls-spec =
     μ-loop
     loop-holds
     call-requires
+    tell-requires
+    next-requires
     sub-left
     loop-less
     loop-again

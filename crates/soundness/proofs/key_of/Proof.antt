@@ -3,13 +3,7 @@
 use borrow.Author.Needs.{needs}
 use Rattle.soundness.proofs.key_of.Statement.{statement}
 use Rattle.soundness.proofs.key_of.Tie as tie
-use Rattle.soundness.proofs.Keying.{empty-key}
-
-returns : tie.Need-returns
-returns c = empty-key (c .before .before .args .name .now) (c .if1 .taken)
-
-cast-size : tie.Need-cast-size
-cast-size c = search needs
+use Rattle.soundness.proofs.Keying.{short-key, long-key}
 
 byte-requires : tie.Need-byte-requires
 byte-requires c κs = search needs
@@ -17,14 +11,38 @@ byte-requires c κs = search needs
 cast-first : tie.Need-cast-first
 cast-first c = search needs
 
-byte-requires-2 : tie.Need-byte-requires-2
-byte-requires-2 c κs = search needs
+cast-result : tie.Need-cast-result
+cast-result c = search needs
 
-cast-second : tie.Need-cast-second
-cast-second c = search needs
+mul-result : tie.Need-mul-result
+mul-result c = search needs
+
+add-result : tie.Need-add-result
+add-result c = search needs
+
+mul-result-2 : tie.Need-mul-result-2
+mul-result-2 c = search needs
+
+add-result-2 : tie.Need-add-result-2
+add-result-2 c = search needs
+
+returns : tie.Need-returns
+returns c = rw (c .before .byte .ensures) (short-key (c .before .before .before .args .name .now) (c .if1 .taken))
+
+cast-size : tie.Need-cast-size
+cast-size c = search needs
 
 sub-end : tie.Need-sub-end
 sub-end c = search needs
+
+sub-byte : tie.Need-sub-byte
+sub-byte c = search needs
+
+byte-requires-2 : tie.Need-byte-requires-2
+byte-requires-2 c κs = search needs
+
+cast-before : tie.Need-cast-before
+cast-before c = search needs
 
 byte-requires-3 : tie.Need-byte-requires-3
 byte-requires-3 c κs = search needs
@@ -51,19 +69,27 @@ add-key-3 : tie.Need-add-key-3
 add-key-3 c = search needs
 
 returns-2 : tie.Need-returns-2
-returns-2 c = search needs
+returns-2 c =
+    rw (c .before .before .before .byte .ensures, c .before .byte2 .ensures, c .byte3 .ensures)
+    (long-key (c .before .before .before .before .before .args .name .now) (c .before .before .if1 .left))
 
 pub key-of-spec : {M : Type 1} → statement M
 key-of-spec =
     tie.close
     (tie.spec
-    returns
-    cast-size
     byte-requires
     cast-first
-    byte-requires-2
-    cast-second
+    cast-result
+    mul-result
+    add-result
+    mul-result-2
+    add-result-2
+    returns
+    cast-size
     sub-end
+    sub-byte
+    byte-requires-2
+    cast-before
     byte-requires-3
     cast-last
     mul-key

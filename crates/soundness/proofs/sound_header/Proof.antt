@@ -3,11 +3,38 @@
 use borrow.Author.Needs.{needs}
 use Rattle.soundness.proofs.sound_header.Statement.{statement}
 use Rattle.soundness.proofs.sound_header.Tie as tie
+use mathlib.Core.Path.{_≡_}
+use mathlib.Core.Bool.{true}
 use mathlib.Core.List.{[]}
+use Prim.Native.Nat.{_≤_}
+use lib.ListN.{take}
 use borrow.Author.Tests.{not-true, not-false}
+use Rattle.laws.specs.Lists.{every}
 use Rattle.laws.proofs.Tests.{refuted, upheld}
-use Rattle.lent.specs.Parts.{namesOf, headerOf, machineOf}
-use Rattle.soundness.proofs.Headers.{few, no-numbers, no-lengths, no-names, not-distinct, by-total}
+use Rattle.metadata.specs.Metadata.{validByte}
+use Rattle.machine.specs.State.{Machine}
+use Rattle.machine.specs.Names.{names}
+use Rattle.lent.specs.Parts.{namesOf, headerOf, machineOf, validLength}
+use Rattle.soundness.proofs.Headers.{numbers, short, few, no-numbers, no-lengths, no-names, not-distinct, by-total}
+
+-- the machine of the parts that are lent
+abbrev machine : tie.Start → Machine
+machine s =
+    machineOf (s .args .core .now) (s .args .queue .now)
+    (headerOf (s .args .rules) (s .args .ring) (namesOf (s .args .held) (s .args .names .now) (s .args .lengths .now)) (s .args .counts .now) [])
+
+-- what has passed: the tests of numbers, of the lengths and of the bytes
+numbers-pass : (c : tie.Else1) → numbers (machine (c .before .before .before .before .before .before .before .before)) ≡ true
+numbers-pass c = not-false _ (c .if1 .left)
+
+held-few : (c : tie.Else1) → c .before .before .before .before .before .before .before .before .args .held ≤ 16
+held-few c = few (machine (c .before .before .before .before .before .before .before .before)) (numbers-pass c)
+
+lengths-pass : (c : tie.Else2) → every validLength (take (c .before .before .before .before .before .before .before .before .before .before .args .held) (c .before .before .before .before .before .before .before .before .before .before .args .lengths .now)) ≡ true
+lengths-pass c = upheld (c .before .lengths-valid .ensures .0) (c .if2 .left)
+
+bytes-pass : (c : tie.Else3) → every (every validByte) (names (machine (c .before .before .before .before .before .before .before .before .before .before .before .before) .header .names)) ≡ true
+bytes-pass c = upheld (c .before .names-valid .ensures) (c .if3 .left)
 
 cast-numbers : tie.Need-cast-numbers
 cast-numbers c = search needs
@@ -19,96 +46,42 @@ cast-numbers-3 : tie.Need-cast-numbers-3
 cast-numbers-3 c = search needs
 
 returns : tie.Need-returns
-returns c =
-    let start = c .before .before .before .before .before .before .before .before in
-    no-numbers
-    (machineOf (start .args .core .now) (start .args .queue .now)
-    (headerOf (start .args .rules) (start .args .ring) (namesOf (start .args .held) (start .args .names .now) (start .args .lengths .now))
-    (start .args .counts .now) [])) (not-true _ (c .if1 .taken))
+returns c = no-numbers (machine (c .before .before .before .before .before .before .before .before)) (not-true _ (c .if1 .taken))
 
 lengths-valid-requires : tie.Need-lengths-valid-requires
-lengths-valid-requires c κs =
-    let start = c .before .before .before .before .before .before .before .before in
-    few
-    (machineOf (start .args .core .now) (start .args .queue .now)
-    (headerOf (start .args .rules) (start .args .ring) (namesOf (start .args .held) (start .args .names .now) (start .args .lengths .now))
-    (start .args .counts .now) [])) (not-false _ (c .if1 .left))
+lengths-valid-requires c κs = held-few c
 
 returns-2 : tie.Need-returns-2
-returns-2 c =
-    let start = c .before .before .before .before .before .before .before .before .before .before in
-    no-lengths
-    (machineOf (start .args .core .now) (start .args .queue .now)
-    (headerOf (start .args .rules) (start .args .ring) (namesOf (start .args .held) (start .args .names .now) (start .args .lengths .now))
-    (start .args .counts .now) [])) (not-false _ (c .before .before .if1 .left)) (refuted (c .before .lengths-valid .ensures .0) (c .if2 .taken))
+returns-2 c = no-lengths (machine (c .before .before .before .before .before .before .before .before .before .before)) (numbers-pass (c .before .before)) (refuted (c .before .lengths-valid .ensures .0) (c .if2 .taken))
 
 names-valid-requires : tie.Need-names-valid-requires
 names-valid-requires c κs =
     let start = c .before .before .before .before .before .before .before .before .before .before in
-    few
-    (machineOf (start .args .core .now) (start .args .queue .now)
-    (headerOf (start .args .rules) (start .args .ring) (namesOf (start .args .held) (start .args .names .now) (start .args .lengths .now))
-    (start .args .counts .now) [])) (not-false _ (c .before .before .if1 .left))
+    let held = held-few (c .before .before) in
+    (held, short (start .args .lengths .now) (start .args .held) (rw (c .before .lengths-valid .ensures .1) held) (lengths-pass c))
 
 returns-3 : tie.Need-returns-3
 returns-3 c =
-    let lengths-valid = c .before .before .before .lengths-valid in
-    let if1 = c .before .before .before .before .if1 in
-    let start = c .before .before .before .before .before .before .before .before .before .before .before .before in
-    no-names
-    (machineOf (start .args .core .now) (start .args .queue .now)
-    (headerOf (start .args .rules) (start .args .ring) (namesOf (start .args .held) (start .args .names .now) (start .args .lengths .now))
-    (start .args .counts .now) [])) (not-false _ (if1 .left)) (upheld (lengths-valid .ensures .0) (c .before .before .if2 .left))
-    (lengths-valid .ensures .1) (refuted (c .before .names-valid .ensures) (c .if3 .taken))
+    no-names (machine (c .before .before .before .before .before .before .before .before .before .before .before .before)) (numbers-pass (c .before .before .before .before)) (lengths-pass (c .before .before)) (refuted (c .before .names-valid .ensures) (c .if3 .taken))
 
 names-distinct-requires : tie.Need-names-distinct-requires
-names-distinct-requires c κs =
-    let if1 = c .before .before .before .before .if1 in
-    let start = c .before .before .before .before .before .before .before .before .before .before .before .before in
-    few
-    (machineOf (start .args .core .now) (start .args .queue .now)
-    (headerOf (start .args .rules) (start .args .ring) (namesOf (start .args .held) (start .args .names .now) (start .args .lengths .now))
-    (start .args .counts .now) [])) (not-false _ (if1 .left))
+names-distinct-requires c κs = search (needs, held-few (c .before .before .before .before))
 
 returns-4 : tie.Need-returns-4
 returns-4 c =
-    let names-valid = c .before .before .before .names-valid in
-    let if2 = c .before .before .before .before .if2 in
-    let lengths-valid = c .before .before .before .before .before .lengths-valid in
-    let if1 = c .before .before .before .before .before .before .if1 in
-    let start = c .before .before .before .before .before .before .before .before .before .before .before .before .before .before in
-    not-distinct
-    (machineOf (start .args .core .now) (start .args .queue .now)
-    (headerOf (start .args .rules) (start .args .ring) (namesOf (start .args .held) (start .args .names .now) (start .args .lengths .now))
-    (start .args .counts .now) [])) (not-false _ (if1 .left)) (upheld (lengths-valid .ensures .0) (if2 .left)) (lengths-valid .ensures .1)
-    (upheld (names-valid .ensures) (c .before .before .if3 .left)) (refuted (c .before .names-distinct .ensures) (c .if4 .taken))
+    not-distinct (machine (c .before .before .before .before .before .before .before .before .before .before .before .before .before .before)) (numbers-pass (c .before .before .before .before .before .before)) (lengths-pass (c .before .before .before .before)) (bytes-pass (c .before .before))
+    (refuted (c .before .names-distinct .ensures) (c .if4 .taken))
 
 total-of-requires : tie.Need-total-of-requires
-total-of-requires c κs =
-    let if1 = c .before .before .before .before .before .before .if1 in
-    let start = c .before .before .before .before .before .before .before .before .before .before .before .before .before .before in
-    few
-    (machineOf (start .args .core .now) (start .args .queue .now)
-    (headerOf (start .args .rules) (start .args .ring) (namesOf (start .args .held) (start .args .names .now) (start .args .lengths .now))
-    (start .args .counts .now) [])) (not-false _ (if1 .left))
+total-of-requires c κs = search (needs, held-few (c .before .before .before .before .before .before))
 
 cast-result : tie.Need-cast-result
 cast-result c = search needs
 
 returns-5 : tie.Need-returns-5
 returns-5 c =
-    let names-distinct = c .before .before .before .names-distinct in
-    let if3 = c .before .before .before .before .if3 in
-    let names-valid = c .before .before .before .before .before .names-valid in
-    let if2 = c .before .before .before .before .before .before .if2 in
-    let lengths-valid = c .before .before .before .before .before .before .before .lengths-valid in
-    let if1 = c .before .before .before .before .before .before .before .before .if1 in
-    let start = c .before .before .before .before .before .before .before .before .before .before .before .before .before .before .before .before in
-    by-total
-    (machineOf (start .args .core .now) (start .args .queue .now)
-    (headerOf (start .args .rules) (start .args .ring) (namesOf (start .args .held) (start .args .names .now) (start .args .lengths .now))
-    (start .args .counts .now) [])) (not-false _ (if1 .left)) (upheld (lengths-valid .ensures .0) (if2 .left)) (lengths-valid .ensures .1)
-    (upheld (names-valid .ensures) (if3 .left)) (upheld (names-distinct .ensures) (c .before .before .if4 .left)) (c .before .total-of .ensures)
+    by-total (machine (c .before .before .before .before .before .before .before .before .before .before .before .before .before .before .before .before)) (numbers-pass (c .before .before .before .before .before .before .before .before)) (lengths-pass (c .before .before .before .before .before .before)) (bytes-pass (c .before .before .before .before))
+    (upheld (c .before .before .before .names-distinct .ensures) (c .before .before .if4 .left)) (c .before .total-of .ensures)
 
 pub sound-header-spec : {M : Type 1} → statement M
 sound-header-spec =

@@ -1,15 +1,15 @@
 -- `steps::run_parts` meets its contract.
 -- Assumes nothing.
 use borrow.Author.Needs.{needs}
-use mathlib.Core.Path.{_∙_}
+use mathlib.Core.Path.{sym, ap, _∙_}
 use Rattle.laws.proofs.Tests.{refuted, upheld}
 use Rattle.machine.specs.declared.Ceiling.the-variants.{Steps}
 use Rattle.machine.specs.State.{Machine}
 use Rattle.soundness.proofs.Headers.{by-parts}
 use Rattle.lent.specs.Parts.{namesOf, parts, unnamed}
+use Rattle.lent.specs.Given.{Given, given, givenBy}
 use Rattle.steps.proofs.Calls.{unsound-run, is-sound}
-use Rattle.steps.proofs.Naming.{sound-ready, unnamed-ready}
-use Rattle.steps.specs.inner.Ready.{Sound}
+use Rattle.steps.proofs.Naming.{Sound, naming, sound-ready, unnamed-ready, run-named}
 use Rattle.steps.proofs.run_parts.Statement.{statement}
 use Rattle.steps.proofs.run_parts.Tie as tie
 
@@ -18,6 +18,12 @@ abbrev machine : (c : tie.Start) → Machine
 machine c =
     let a = c .args in
     parts (a .core .now) (a .queue .now) (a .rules) (a .ring) (a .taken) (namesOf (a .held) (a .names .now) (a .lengths .now)) (a .counts .now) (a .threads .now)
+
+-- the same without its names
+abbrev lent : (c : tie.Start) → Machine
+lent c =
+    let a = c .args in
+    unnamed (a .core .now) (a .queue .now) (a .rules) (a .ring) (a .taken) (a .held) (a .counts .now) (a .threads .now)
 
 sound : (c : tie.After-sized) → Sound (machine (c .before .before .before .before .before .before .before .before .before .before))
 sound c =
@@ -45,9 +51,8 @@ sized-requires c κs = search needs
 run-loop-requires : tie.Need-run-loop-requires
 run-loop-requires c κs =
     let start = c .before .before .before .before .before .before .before .before .before .before .before .before .before .before in
-    let a = start .args in
     let s = sound-ready (machine start) (sound (c .before .before .before .before)) in
-    unnamed-ready (unnamed (a .core .now) (a .queue .now) (a .rules) (a .ring) (a .taken) (a .held) (a .counts .now) (a .threads .now)) (a .names .now) (a .lengths .now) s
+    unnamed-ready (lent start) (start .args .names .now) (start .args .lengths .now) s
 
 same-length-3 : tie.Need-same-length-3
 same-length-3 c = search needs
@@ -57,8 +62,10 @@ same-length-4 c = search needs
 
 returns-2 : tie.Need-returns-2
 returns-2 c =
-    let a = c .before .before .before .before .before .before .before .before .before .before .before .before .before .before .before .before .before .before .before .args in
-    c .before .before .before .before .run-loop .ensures .beside (a .names .now) (a .lengths .now) (sound (c .before .before .before .before .before .before .before .before .before))
+    let start = c .before .before .before .before .before .before .before .before .before .before .before .before .before .before .before .before .before .before .before in
+    let a = start .args in
+    ap (λ (x : Given). given (x .told) (x .writes) (x .steps) (naming (a .names .now) (a .lengths .now) (x .machine))) (c .before .before .before .before .run-loop .ensures)
+    ∙ sym (ap givenBy (run-named (a .names .now) (a .lengths .now) (a .ceiling) (lent start) (sound (c .before .before .before .before .before .before .before .before .before))))
 
 pub run-parts-spec : {M : Type 1} → statement M
 run-parts-spec =

@@ -1,20 +1,22 @@
 -- `sumacadze::sumacadze_step` meets its contract: a walk of its MIR, by hand. The header's borrow is opened and copied, `cycle::step` is called on the copy, and on each slice at its own lifetime, share and name (they are given up for good),
--- the header that it returns is stored whole, its answer is told in numbers by `by_value::in_numbers`, and the borrow is closed.
+-- of the header that it returns what changes is stored, its answer is told in numbers by `by_value::in_numbers`, and the borrow is closed.
 -- Assumes nothing.
 use Rattle.sumacadze.proofs.Thin.{_≡_, refl, [], _∷_, List, length, URA, fullShare, named, Val, SProp, ent, emp, via, fst∗, id⊢, ftrue, flft, fobs, fbor, fat, Memory, Routine, Heap, Calls, Loops, WpFn, Tables, Atoms, Lfts, Shares, Fun, givenOf, tables, tablesOf, Given, Item, ‵, raw, _⊛_, ⋆, some, later, _$_}
-use Rattle.sumacadze.proofs.Thin.{_∵_, !, qed, by, move, keep, drop, use1, split, join, group, pick, rewrite, fsplit, fsplit3, fjoin, fjoin3, feqI, feqL, suffices, frame, await, done, look, look-raw, init, store-raw, forget, stop, hop, fld, from, load, addr, of-opd, and-then, no-more, assigns, land, returns, enter, alloc1, alloc0, params1}
+use Rattle.sumacadze.proofs.Thin.{_∵_, !, qed, by, move, keep, drop, use1, split, join, group, pick, rewrite, fsplit, fsplit3, fjoin, fjoin3, feqI, feqL, suffices, frame, await, done, look, look-raw, init, forget, stop, hop, fld, from, load, addr, of-opd, and-then, no-more, assigns, land, returns, enter, alloc1, alloc0, params1}
 use Rattle.sumacadze.proofs.Thin.{pass1, pass0, free1, free0, agg, whole, sub, look-in, Body, FmC, fmOf, WpFn-mono, owns, Is, Are, Ises, shows, mem, u64, RefT, MutRef, ptr-vals, mut-tells, MutSlice, finally, slice-vals, mut-slice-tells, plain, typesAt, only, peeks, heard, nothing, Args, Vals, onEntry, Meets, tripleOf, Contract, Triple, calls-at, lasts, atExit, Lasts}
-use Rattle.sumacadze.proofs.Thin.{entered, cited, says, Stays, stay-ref, gave-slice, walkOf, goes-ref, goes-gave-slice, ends-at, walked, walk-meets, hval, struct-is, struct-again, struct-typed, struct-owned, header-opens, header-closes}
+use Rattle.sumacadze.proofs.Thin.{entered, cited, says, Stays, stay-ref, gave-slice, walkOf, goes-ref, goes-gave-slice, ends-at, walked, walk-meets, hval, struct-is, struct-again, struct-typed, struct-owned, header-opens}
 use denote.Struct.Laws as LL
 use Rattle.machine.specs.declared.Header.{Header}
 use Rattle.machine.specs.Step.{step}
+use Rattle.machine.specs.State.{Machine}
 use Rattle.lent.specs.Parts.{machineOf}
 use Rattle.machine.specs.declared.Outcome.{Outcome}
 use Rattle.answer.specs.Numbers.{told}
 use Rattle.lent.specs.Given as by-value
 use Rattle.sumacadze.specs.declared.Report.{Report}
 use Rattle.sumacadze.proofs.Numbers.{in-numbers}
-use Rattle.sumacadze.proofs.Played.{Teller, passed, to-teller, Told, told-by, goes-teller, header-is}
+use Rattle.sumacadze.proofs.Played.{Teller, told-by, all-changed, writes-back, told-and-closed}
+use Rattle.machine.proofs.Step.{step-fixed}
 use Rattle.machine.proofs.Header as T
 use Rattle.machine.proofs.Header.Laws as T′
 use Rattle.machine.proofs.Outcome as S
@@ -25,7 +27,6 @@ use Rattle.cycle.proofs.step as g
 use Rattle.cycle.proofs.step.Symbol as g-def
 use Rattle.cycle.proofs.step.Symbol.{name as #callee}
 use Rattle.cycle.proofs.step.Met as g-thm
-use Rattle.sumacadze.proofs.by_value.in_numbers as t
 use Rattle.sumacadze.proofs.by_value.in_numbers.Symbol as t-def
 use Rattle.sumacadze.proofs.by_value.in_numbers.Symbol.{name as #teller}
 use Rattle.sumacadze.proofs.by_value.in_numbers.Met as t-thm
@@ -52,6 +53,10 @@ module _ {M : Type 1} (𝓤 : URA M) (H : Heap 𝓤) (A : Atoms 𝓤) (W : Given
   abbrev lent : RefT Header
   lent = a .1 .1 .0
 
+  -- the machine at entry
+  abbrev start : Machine
+  start = machineOf (a .0 .now) (a .1 .0 .now) (lent .now)
+
   abbrev Post : Val → SProp 𝓤
   Post = walkOf 𝓤 H A f.ended stayed (f.clauses 𝓤 H A at-mem run) .post ((κs, qs, tt, a, vals), tt)
 
@@ -70,7 +75,7 @@ module _ {M : Type 1} (𝓤 : URA M) (H : Heap 𝓤) (A : Atoms 𝓤) (W : Given
   Ensured r zs = g.clauses 𝓤 H A at-mem run κs′ a′ .ensures tt r (atExit g.ended κs′ a′ zs)
 
   abbrev Said : Outcome → Lasts g.ended κs′ a′ → Type 0
-  Said r zs = by-value.given (told (r .answer)) (r .writes) (r .steps) (machineOf (zs .0) (zs .1 .0) (r .header)) ≡ by-value.givenBy (step (machineOf (a .0 .now) (a .1 .0 .now) (lent .now)))
+  Said r zs = by-value.given (told (r .answer)) (r .writes) (r .steps) (machineOf (zs .0) (zs .1 .0) (r .header)) ≡ by-value.givenBy (step start)
 
   -- what of the parameters goes to the callee
   abbrev given : List (Item 𝓤)
@@ -120,21 +125,12 @@ module _ {M : Type 1} (𝓤 : URA M) (H : Heap 𝓤) (A : Atoms 𝓤) (W : Given
         split ! $ move ! (1 ∷ []) $ heard ! (Said r zs) (λ e. fsplit ! $ fsplit ! $ move ! (1 ∷ []) $ feqL ! (λ m0. move ! (1 ∷ []) $ fsplit ! $ fsplit ! $ move ! (1 ∷ []) $ feqL ! (λ m1.
         move ! (3 ∷ []) $ split ! $ move ! (1 ∷ []) $ peeks ! S.the-row (Is S.the-row) (shows 𝓤 H A S.the-row) r (v ∷ []) (λ is.
         land ! (from ! (stop !)) (init ! 21 refl (struct-typed 𝓤 H A W S.the-type S′.the-laws r v is)) $ rewrite ! 21 (λ (u : Val). ‵ (fat fullShare S′.mir l4 0 u)) (struct-is S.the-type S′.the-laws r v is) refl $
-        -- the header is stored whole
-        assigns ! (of-opd ! (load ! (from ! (fld ! refl (stop !))) (look-in ! 21 (sub ! 3 refl (whole !))))) (from ! (hop ! (look ! 23 refl) (stop !))) (store-raw ! 5 refl (struct-typed 𝓤 H A W T.the-type T′.the-laws (r .header) _ (header-is r v is))) $
-        -- the answer is told in numbers, into the result
-        nothing ! $ nothing ! $ group ! 2 $ use1 W (raw (Teller 𝓤 H A at-mem run .pre (to-teller 𝓤 H A at-mem run r))) (goes-teller 𝓤 H A W at-mem run r v is) $
-        calls-at ! fm (Teller 𝓤 H A at-mem run) teller (to-teller 𝓤 H A at-mem run r) (and-then ! (load ! (from ! (fld ! refl (stop !))) (look-in ! 22 (sub ! 0 refl (whole !)))) (and-then ! (load ! (from ! (fld ! refl (stop !))) (look-in ! 22 (sub ! 1 refl (whole !)))) (and-then ! (load ! (from ! (fld ! refl (stop !))) (look-in ! 22 (sub ! 2 refl (whole !)))) (no-more !)))) (λ w.
-        use1 W (later (some (λ (q : Report). (‵ ftrue ⊛ ‵ (O.the-row .own q (w ∷ []))) ⊛ some (λ (ws : Lasts t.ended tt (passed r)). ‵ (lasts t.ended tt (passed r) ws) ⊛ raw (Told 𝓤 H A at-mem run r q ws))))) (id⊢ 𝓤 _) $ await ! tt $ pick ! (λ q.
-        split ! $ move ! (1 ∷ []) $ pick ! (λ ws.
-        split ! $ move ! (1 ∷ []) $ heard ! (q ≡ told-by r) (λ n.
-        move ! (1 ∷ []) $ split ! $ move ! (1 ∷ []) $ peeks ! O.the-row (Is O.the-row) (shows 𝓤 H A O.the-row) q (w ∷ []) (λ told.
-        land ! (from ! (stop !)) (init ! 32 refl (struct-typed 𝓤 H A W O.the-type O′.the-laws q w told)) $ rewrite ! 32 (λ (u : Val). ‵ (fat fullShare O′.mir l0 0 u)) (struct-is O.the-type O′.the-laws q w told) refl $
-        -- the borrow is closed
-        move ! (8 ∷ 9 ∷ 10 ∷ 11 ∷ []) $ header-closes ! tt lent (r .header) (header-is r v is) $
-        returns ! (look ! 31 refl) $ forget ! 13 refl $ forget ! 15 refl $ forget ! 17 refl $ forget ! 19 refl $ forget ! 21 refl $ forget ! 23 refl $ forget ! 25 refl $ forget ! 27 refl $ forget ! 29 refl $ forget ! 31 refl $
-        move ! (31 ∷ 32 ∷ []) $ free1 ! $ move ! (29 ∷ 30 ∷ []) $ free1 ! $ move ! (27 ∷ 28 ∷ []) $ free1 ! $ move ! (25 ∷ 26 ∷ []) $ free1 ! $ move ! (23 ∷ 24 ∷ []) $ free1 ! $ move ! (21 ∷ 22 ∷ []) $ free1 ! $ move ! (19 ∷ 20 ∷ []) $ free1 ! $ move ! (17 ∷ 18 ∷ []) $ free1 ! $ move ! (15 ∷ 16 ∷ []) $ free1 ! $ move ! (13 ∷ 14 ∷ []) $ free1 ! $ free0 ! $
-        keep ! (0 ∷ 1 ∷ 2 ∷ 7 ∷ 10 ∷ 8 ∷ []) $ by ! (exits r zs m0 m1 e q w n told))))))))))))))))))))))))
+        -- what changes of the header is stored, the answer is told in numbers, into the result, and the borrow is closed
+        move ! (21 ∷ 23 ∷ 5 ∷ 6 ∷ 7 ∷ 8 ∷ 29 ∷ []) $ writes-back ! 4 3 refl refl (lent .ptr .0) (lent .ptr .1) (lent .now) r v is (all-changed (lent .now) (step start) e (step-fixed start)) $
+        told-and-closed ! 4 refl refl lent r v is at-mem run fm teller (λ q w n told.
+        returns ! (look ! 5 refl) $ forget ! 5 refl $ forget ! 27 refl $ forget ! 25 refl $ forget ! 4 refl $ forget ! 3 refl $ forget ! 21 refl $ forget ! 19 refl $ forget ! 17 refl $ forget ! 15 refl $ forget ! 13 refl $
+        move ! (5 ∷ 29 ∷ []) $ free1 ! $ move ! (26 ∷ 27 ∷ []) $ free1 ! $ move ! (24 ∷ 25 ∷ []) $ free1 ! $ move ! (4 ∷ 23 ∷ []) $ free1 ! $ move ! (3 ∷ 21 ∷ []) $ free1 ! $ move ! (18 ∷ 19 ∷ []) $ free1 ! $ move ! (16 ∷ 17 ∷ []) $ free1 ! $ move ! (14 ∷ 15 ∷ []) $ free1 ! $ move ! (12 ∷ 13 ∷ []) $ free1 ! $ move ! (10 ∷ 11 ∷ []) $ free1 ! $ free0 ! $
+        keep ! (0 ∷ 1 ∷ 2 ∷ 4 ∷ 7 ∷ 5 ∷ []) $ by ! (exits r zs m0 m1 e q w n told))))))))))))))))))))
 
 meets : {M : Type 1} (𝓤 : URA M) (H : Heap 𝓤) (A : Atoms 𝓤) → Given 𝓤 H A → (mem : Memory → SProp 𝓤) (run : Routine → Fun 𝓤) (𝓣 : Tables 𝓤 H) → Triple 𝓤 (𝓣 .C #callee) (Callee 𝓤 H A mem run) → Triple 𝓤 (𝓣 .C #teller) (Teller 𝓤 H A mem run)
     → Meets 𝓤 H A f.signature (WpFn 𝓤 H (𝓣 .C) (𝓣 .Λ) code.function) (f.spec 𝓤 H A mem run)

@@ -9,27 +9,42 @@ use Rattle.address.proofs.Evaluation.{ready-b}
 use Rattle.steps.proofs.Operating.{same-operand, as-named, still-seen}
 
 direct-requires : tie.Need-direct-requires
-direct-requires c κs = (
-  ready-b (c .before .before .before .before .before .before .before .pre .0) (c .before .before .number .ensures),
-  c .before .if1 .taken,
-  refl,
-  c .before .before .before .before .before .before .before .pre .0 .sound,
-  still-seen _ (same-operand (c .before .before .before .before .before .before .before .args .rules) (c .before .before .before .before .before .before .before .args .core .now) (c .before .before .before .before .before .before .before .args .pc .0) (c .before .before .before .before .before .b-mode .ensures) (c .before .before .number .ensures)) (c .before .before .before .before .before .before .before .pre .1),
-)
+direct-requires c κs =
+    let c2 = c .before .before in
+    let c5 = c2 .before .before .before in
+    let c7 = c5 .before .before in (
+      ready-b (c7 .pre .0) (c2 .number .ensures),
+      c .before .if1 .taken,
+      refl,
+      c7 .pre .0 .sound,
+      still-seen _ (same-operand (c7 .args .rules) (c7 .args .core .now) (c7 .args .pc .0) (c5 .b-mode .ensures) (c2 .number .ensures)) (c7 .pre .1),
+    )
 
 returns : tie.Need-returns
-returns c = as-named (same-operand (c .before .before .before .before .before .before .before .before .args .rules) (c .before .before .before .before .before .before .before .before .args .core .now) (c .before .before .before .before .before .before .before .before .args .pc .0) (c .before .before .before .before .before .before .b-mode .ensures) (c .before .before .before .number .ensures)) (c .direct .ensures)
+returns c =
+    let c3 = c .before .before .before in
+    let c6 = c3 .before .before .before in
+    let c8 = c6 .before .before in
+    as-named (same-operand (c8 .args .rules) (c8 .args .core .now) (c8 .args .pc .0) (c6 .b-mode .ensures) (c3 .number .ensures)) (c .direct .ensures)
 
 indirect-requires : tie.Need-indirect-requires
-indirect-requires c κs = (
-  ready-b (c .before .before .before .before .before .before .before .pre .0) (c .before .before .number .ensures),
-  c .before .if1 .left,
-  rw (c .before .before .before .before .before .b-mode .ensures) (omega arith),
-  still-seen _ (same-operand (c .before .before .before .before .before .before .before .args .rules) (c .before .before .before .before .before .before .before .args .core .now) (c .before .before .before .before .before .before .before .args .pc .0) (c .before .before .before .before .before .b-mode .ensures) (c .before .before .number .ensures)) (c .before .before .before .before .before .before .before .pre .1),
-)
+indirect-requires c κs =
+    let c2 = c .before .before in
+    let c5 = c2 .before .before .before in
+    let c7 = c5 .before .before in (
+      ready-b (c7 .pre .0) (c2 .number .ensures),
+      c .before .if1 .left,
+      rw (c5 .b-mode .ensures) (omega arith),
+      still-seen _ (same-operand (c7 .args .rules) (c7 .args .core .now) (c7 .args .pc .0) (c5 .b-mode .ensures) (c2 .number .ensures)) (c7 .pre .1),
+    )
 
 returns-2 : tie.Need-returns-2
-returns-2 c = as-named (same-operand (c .before .before .before .before .before .before .before .before .before .before .args .rules) (c .before .before .before .before .before .before .before .before .before .before .args .core .now) (c .before .before .before .before .before .before .before .before .before .before .args .pc .0) (c .before .before .before .before .before .before .before .before .b-mode .ensures) (c .before .before .before .before .before .number .ensures)) (c .before .before .indirect .ensures)
+returns-2 c =
+    let c2 = c .before .before in
+    let c5 = c2 .before .before .before in
+    let c8 = c5 .before .before .before in
+    let c10 = c8 .before .before in
+    as-named (same-operand (c10 .args .rules) (c10 .args .core .now) (c10 .args .pc .0) (c8 .b-mode .ensures) (c5 .number .ensures)) (c2 .indirect .ensures)
 
 b-mode-requires : tie.Need-b-mode-requires
 b-mode-requires c κs = search needs

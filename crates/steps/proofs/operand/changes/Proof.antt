@@ -1,14 +1,15 @@
 -- `steps::operand::changes` meets its contract.
 -- Assumes nothing.
+use borrow.Author.Needs.{needs}
 use Rattle.steps.proofs.operand.changes.Statement.{statement}
 use Rattle.steps.proofs.operand.changes.Tie as tie
-use Rattle.steps.proofs.Operating.{no-change, one-change}
+use Rattle.steps.proofs.Operating.{writes-by-mode}
+
+cast-writes : tie.Need-cast-writes
+cast-writes c = search needs
 
 returns : tie.Need-returns
-returns c = no-change (c .before .args .mode) (c .if1 .taken)
-
-returns-2 : tie.Need-returns-2
-returns-2 c = one-change (c .before .args .mode) (c .if1 .left) (c .before .pre)
+returns c = writes-by-mode (c .args .mode) (c .pre)
 
 pub changes-spec : {M : Type 1} → statement M
-changes-spec = tie.close (tie.spec returns returns-2)
+changes-spec = tie.close (tie.spec cast-writes returns)

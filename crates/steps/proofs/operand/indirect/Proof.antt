@@ -7,42 +7,75 @@ use Rattle.word.proofs.Cells.{reduced}
 use Rattle.steps.proofs.Operating.{plain, lower, raise}
 
 slice-read-old : tie.Need-slice-read-old
-slice-read-old c = let h = reduced _ _ (c .before .before .before .before .pre .0 .place) (c .before .before .add .ensures) .below in search needs
+slice-read-old c =
+    let c2 = c .before .before in
+    let c4 = c2 .before .before in
+    let h = reduced _ _ (c4 .pre .0 .place) (c2 .add .ensures) .below in search needs
 
 slice-read-cell : tie.Need-slice-read-cell
-slice-read-cell c = let k = reduced _ _ (c .before .before .before .before .before .before .before .before .before .before .pre .0 .place) (c .before .before .before .add2 .ensures) .below in search needs
+slice-read-cell c =
+    let c3 = c .before .before .before in
+    let c10 = c3 .before .before .before .before .before .before .before in
+    let k = reduced _ _ (c10 .pre .0 .place) (c3 .add2 .ensures) .below in search needs
 
 returns : tie.Need-returns
 returns c =
-    let a = c .before .before .before .before .before .before .before .before .before .before .args in
-    plain (a .rules) (a .core .now) (a .pc .0) (a .mode) (a .n .0) (c .before .before .before .before .before .before .before .before .before .before .pre .0) (c .before .before .before .before .before .before .before .before .before .before .pre .3) (c .before .before .before .before .before .before .before .before .add .result) (reduced _ _ (c .before .before .before .before .before .before .before .before .before .before .pre .0 .place) (c .before .before .before .before .before .before .before .before .add .ensures) .is)
-    (c .before .before .before .before .before .before .before .before .before .before .pre .1) (c .before .before .before .before .before .before .before .before .before .before .pre .2) _ _ (c .before .before .before .add2 .result) (c .before .before .before .before .before .number .ensures) (c .before .before .before .before .aim .ensures) (reduced _ _ (c .before .before .before .before .before .before .before .before .before .before .pre .0 .place) (c .before .before .before .add2 .ensures) .is) (c .before .if1 .taken)
+    let c3 = c .before .before .before in
+    let c4 = c3 .before in
+    let c5 = c4 .before in
+    let c8 = c5 .before .before .before in
+    let c10 = c8 .before .before in
+    plain (c10 .args .rules) (c10 .args .core .now) (c10 .args .pc .0) (c10 .args .mode) (c10 .args .n .0) (c10 .pre .3) (c8 .add .result)
+    (reduced _ _ (c10 .pre .0 .place) (c8 .add .ensures) .is) (c10 .pre .0) (c10 .pre .1) (c10 .pre .2) _ _ (c3 .add2 .result) (c5 .number .ensures) (c4 .aim .ensures)
+    (reduced _ _ (c10 .pre .0 .place) (c3 .add2 .ensures) .is) (c .before .if1 .taken)
 
 lower-requires : tie.Need-lower-requires
 lower-requires c κs =
-    let h = reduced _ _ (c .before .before .before .before .before .before .before .before .before .before .before .before .pre .0 .place) (c .before .before .before .before .before .before .before .before .before .before .add .ensures) .below in
-    let k = reduced _ _ (c .before .before .before .before .before .before .before .before .before .before .before .before .pre .0 .place) (c .before .before .before .before .before .add2 .ensures) .below in
+    let c5 = c .before .before .before .before .before in
+    let c10 = c5 .before .before .before .before .before in
+    let c12 = c10 .before .before in
+    let h = reduced _ _ (c12 .pre .0 .place) (c10 .add .ensures) .below in
+    let k = reduced _ _ (c12 .pre .0 .place) (c5 .add2 .ensures) .below in
     search needs
 
 returns-2 : tie.Need-returns-2
 returns-2 c =
-    let a = c .before .before .before .before .before .before .before .before .before .before .before .before .before .before .before .args in
-    lower (a .rules) (a .core .now) (a .pc .0) (a .mode) (a .n .0) (c .before .before .before .before .before .before .before .before .before .before .before .before .before .before .before .pre .0) (c .before .before .before .before .before .before .before .before .before .before .before .before .before .before .before .pre .3) (c .before .before .before .before .before .before .before .before .before .before .before .before .before .add .result) (reduced _ _ (c .before .before .before .before .before .before .before .before .before .before .before .before .before .before .before .pre .0 .place) (c .before .before .before .before .before .before .before .before .before .before .before .before .before .add .ensures) .is)
-    (c .before .before .before .before .before .before .before .before .before .before .before .before .before .before .before .pre .1) (c .before .before .before .before .before .before .before .before .before .before .before .before .before .before .before .pre .2) _ _ (c .before .before .before .before .before .before .before .before .add2 .result) (c .before .before .before .before .before .before .before .before .before .before .number .ensures) (c .before .before .before .before .before .before .before .before .before .aim .ensures) (reduced _ _ (c .before .before .before .before .before .before .before .before .before .before .before .before .before .before .before .pre .0 .place) (c .before .before .before .before .before .before .before .before .add2 .ensures) .is)
-    _ _ (c .before .before .lower .ensures .1) (c .before .before .before .before .before .before .if1 .left) (c .before .before .before .before .before .if2 .taken) (c .before .before .before .with-number .ensures) _ (c .before .before .lower .ensures .0)
+    let c2 = c .before .before in
+    let c3 = c2 .before in
+    let c5 = c3 .before .before in
+    let c6 = c5 .before in
+    let c8 = c6 .before .before in
+    let c9 = c8 .before in
+    let c10 = c9 .before in
+    let c13 = c10 .before .before .before in
+    let c15 = c13 .before .before in
+    lower (c15 .args .rules) (c15 .args .core .now) (c15 .args .pc .0) (c15 .args .mode) (c15 .args .n .0) (c15 .pre .3) (c13 .add .result)
+    (reduced _ _ (c15 .pre .0 .place) (c13 .add .ensures) .is) (c15 .pre .0) (c15 .pre .1) (c15 .pre .2) _ _ (c8 .add2 .result) (c10 .number .ensures) (c9 .aim .ensures)
+    (reduced _ _ (c15 .pre .0 .place) (c8 .add2 .ensures) .is) _ _ (c2 .lower .ensures .1) (c6 .if1 .left) (c5 .if2 .taken) (c3 .with-number .ensures) _ (c2 .lower .ensures .0)
 
 raise-requires : tie.Need-raise-requires
 raise-requires c κs =
-    let h = reduced _ _ (c .before .before .before .before .before .before .before .before .before .before .before .before .before .pre .0 .place) (c .before .before .before .before .before .before .before .before .before .before .before .add .ensures) .below in
-    let k = reduced _ _ (c .before .before .before .before .before .before .before .before .before .before .before .before .before .pre .0 .place) (c .before .before .before .before .before .before .add2 .ensures) .below in
+    let c6 = c .before .before .before .before .before .before in
+    let c11 = c6 .before .before .before .before .before in
+    let c13 = c11 .before .before in
+    let h = reduced _ _ (c13 .pre .0 .place) (c11 .add .ensures) .below in
+    let k = reduced _ _ (c13 .pre .0 .place) (c6 .add2 .ensures) .below in
     search needs
 
 returns-3 : tie.Need-returns-3
 returns-3 c =
-    let a = c .before .before .before .before .before .before .before .before .before .before .before .before .before .before .before .before .args in
-    raise (a .rules) (a .core .now) (a .pc .0) (a .mode) (a .n .0) (c .before .before .before .before .before .before .before .before .before .before .before .before .before .before .before .before .pre .0) (c .before .before .before .before .before .before .before .before .before .before .before .before .before .before .before .before .pre .3) (c .before .before .before .before .before .before .before .before .before .before .before .before .before .before .add .result) (reduced _ _ (c .before .before .before .before .before .before .before .before .before .before .before .before .before .before .before .before .pre .0 .place) (c .before .before .before .before .before .before .before .before .before .before .before .before .before .before .add .ensures) .is)
-    (c .before .before .before .before .before .before .before .before .before .before .before .before .before .before .before .before .pre .1) (c .before .before .before .before .before .before .before .before .before .before .before .before .before .before .before .before .pre .2) _ _ (c .before .before .before .before .before .before .before .before .before .add2 .result) (c .before .before .before .before .before .before .before .before .before .before .before .number .ensures) (c .before .before .before .before .before .before .before .before .before .before .aim .ensures) (reduced _ _ (c .before .before .before .before .before .before .before .before .before .before .before .before .before .before .before .before .pre .0 .place) (c .before .before .before .before .before .before .before .before .before .add2 .ensures) .is)
-    _ _ (c .before .before .raise .ensures .1) (c .before .before .before .before .before .before .if2 .left) _ (reduced _ _ (c .before .before .before .before .before .before .before .before .before .before .before .before .before .before .before .before .pre .0 .place) (c .before .before .before .before .before .plus .ensures) .is) (c .before .before .before .with-number2 .ensures) _ (c .before .before .raise .ensures .0)
+    let c2 = c .before .before in
+    let c3 = c2 .before in
+    let c5 = c3 .before .before in
+    let c6 = c5 .before in
+    let c9 = c6 .before .before .before in
+    let c10 = c9 .before in
+    let c11 = c10 .before in
+    let c14 = c11 .before .before .before in
+    let c16 = c14 .before .before in
+    raise (c16 .args .rules) (c16 .args .core .now) (c16 .args .pc .0) (c16 .args .mode) (c16 .args .n .0) (c16 .pre .3) (c14 .add .result)
+    (reduced _ _ (c16 .pre .0 .place) (c14 .add .ensures) .is) (c16 .pre .0) (c16 .pre .1) (c16 .pre .2) _ _ (c9 .add2 .result) (c11 .number .ensures) (c10 .aim .ensures)
+    (reduced _ _ (c16 .pre .0 .place) (c9 .add2 .ensures) .is) _ _ (c2 .raise .ensures .1) (c6 .if2 .left) _ (c5 .increment .ensures) (c3 .with-number2 .ensures) _ (c2 .raise .ensures .0)
 
 add-requires : tie.Need-add-requires
 add-requires c κs = search needs
@@ -77,8 +110,8 @@ with-number-requires c κs = search needs
 same-length : tie.Need-same-length
 same-length c = search needs
 
-plus-requires : tie.Need-plus-requires
-plus-requires c κs = search needs
+increment-requires : tie.Need-increment-requires
+increment-requires c κs = search needs
 
 with-number-requires-2 : tie.Need-with-number-requires-2
 with-number-requires-2 c κs = search needs
@@ -87,4 +120,4 @@ same-length-2 : tie.Need-same-length-2
 same-length-2 c = search needs
 
 pub indirect-spec : {M : Type 1} → statement M
-indirect-spec = tie.close (tie.spec add-requires cast-at mul-old slice-read-old cast-field number-requires aim-requires add-requires-2 cast-there mul-cell slice-read-cell returns with-number-requires lower-requires same-length returns-2 plus-requires with-number-requires-2 raise-requires same-length-2 returns-3)
+indirect-spec = tie.close (tie.spec add-requires cast-at mul-old slice-read-old cast-field number-requires aim-requires add-requires-2 cast-there mul-cell slice-read-cell returns with-number-requires lower-requires same-length returns-2 increment-requires with-number-requires-2 raise-requires same-length-2 returns-3)
