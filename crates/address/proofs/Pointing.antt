@@ -315,12 +315,3 @@ module _ (rules : Rules) (core : List ℕ) (pc mode n : ℕ) where
   pub register-whole : unpacked (packed (its .register)) ≡ its .register
   unfolding operand
   register-whole = unpack-pack _ (word-range _)
-
-  pub writes-few : length (its .written) ≤ 1
-  unfolding operand
-  writes-few = by (getD shifts mode keeps)
-    where
-      by : (t : Shift) → length (shifted t (ahead size pc n)) ≤ 1
-      by keeps = omega arith
-      by lowers = omega arith
-      by raises = omega arith

@@ -1,6 +1,6 @@
 // The packed queue entry (01, 'Queue and names').
 ghost use mathlib.Core.Path.{_≡_};
-ghost use Rattle.machine.specs.Queue.{packedEntry, unpackedEntry, entry};
+ghost use Rattle.machine.specs.Queue.{packedEntry, unpackedEntry};
 use machine::Entry;
 use offset::Absolute;
 
@@ -23,11 +23,4 @@ pub fn unpack(w: u64) -> Entry
         thread,
         name,
     }
-}
-
-// The word of an entry at another place.
-pub fn with_place(w: u64, place: Absolute) -> u64
-    ensures { λ r. ⌜ r ≡ packedEntry (entry (place .0) (unpackedEntry w .thread) (unpackedEntry w .name)) ⌝ }
-{
-    w & 0xf_ffff_ffff_0000 | place.0 as u64 & 0xffff
 }

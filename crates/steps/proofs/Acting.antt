@@ -4,7 +4,7 @@ use mathlib.Core.Path.{_≡_, refl, sym, ap, _∙_}
 use mathlib.Core.Bool.{Bool, true, false, cond, not, _&&_, _||_}
 use mathlib.Core.List.{List}
 use mathlib.Core.Option.{Option, none, some}
-use Prim.Native.Nat.{ℕ, _+_, _/_, _%_, _≤_, _<_}
+use Prim.Native.Nat.{ℕ, _+_, _/_, _%_, _^_, _≤_, _<_}
 use native.Mathlib.Nat.{add-zero, mod-add-mod}
 use native.Mathlib.Omega.{arith}
 use lib.Dec.{eqb, ltb}
@@ -17,6 +17,7 @@ use Rattle.cell.specs.declared.Cell.{Cell}
 use Rattle.offset.specs.Offset.{ahead}
 use Rattle.cell.specs.Cells.{packed, unpacked, withNumber}
 use Rattle.cell.proofs.Words.{word-range, unpack-pack}
+use Rattle.cell.proofs.Soundness.{sound-fields}
 use Rattle.machine.specs.Execution as machine
 use Rattle.machine.specs.Execution.{Scene, Effect, ends, goes, divisor, mets, some?, computes, stored, put, isNone, effectOf}
 use Rattle.machine.specs.Pointers.{less}
@@ -25,11 +26,11 @@ use Rattle.steps.specs.declared.opcode.Executed.{Executed}
 use Rattle.steps.specs.declared.opcode.Executed.the-variants.{Goes, Splits, Dat, DivideByZero}
 use Rattle.steps.specs.declared.modifier.Met.{Met}
 use Rattle.steps.specs.inner.Instruction.{answered}
-use Rattle.word.specs.Words.{fieldBy}
 use Rattle.steps.specs.inner.Instruction.{absolute}
-use Rattle.steps.specs.inner.Acts.{copyOf, metOf, Below, valueBy, sceneOf, storeWrites, Answers, Does, SoundScene}
+use Rattle.steps.specs.inner.Acts.{copyOf, FirstBit, fieldAt, metOf, firstOf, lastOf, Below, valueBy, sceneOf, storeWrites, Answers, Does, SoundScene}
 use Rattle.word.proofs.Cells.{whole}
-use Rattle.steps.proofs.FieldPairs.{Shape, shape, every-two, some-two, stored-two, met-below}
+use Rattle.steps.proofs.FieldBits.{packed-small}
+use Rattle.steps.proofs.FieldPairs.{Shape, shape, one-pair, put-twice, every-two, some-two, stored-two, met-below, met-bits}
 use Rattle.steps.proofs.Arithmetic.{none-is, part-is, put-range}
 
 -- the effect by ranges of opcodes
@@ -40,6 +41,10 @@ computes-at op s l h = span op 2 5 l h (λ e. rw e, (λ e. rw e, (λ e. rw e, (�
 not-both : (a b : Bool) → (not a || not b) ≡ not (a && b)
 not-both true b = refl
 not-both false b = refl
+
+twice-or : (b : Bool) → (b && b) ≡ false → (b || b) ≡ false
+twice-or true e = e
+twice-or false e = refl
 
 -- two cells on
 pub two-on : (size pc : ℕ) {next after : ℕ} → next ≡ ahead size pc 1 → after ≡ ahead size next 1 → after ≡ ahead size pc 2
@@ -92,9 +97,19 @@ module _ (size : ℕ) (core : List ℕ) (k pc jump target ra rb w : ℕ) where
       pub below : Below size p
       below = met-below size k ra rb p ep (ok .soundA) (ok .soundB)
 
+      -- what a store of one number, or of two, asks
+      pub asks-one : (n : ℕ) → n < size → FirstBit (p .t1) × (getD core target 0 < 2 ^ 46) × (n < 65536)
+      asks-one n h =
+          let v = ok .valid in (met-bits k ra rb p (ok .row) ep .0, sound-fields size (getD core target 0) (ok .live) .0, omega arith)
+
+      pub asks-two : (n1 n2 : ℕ) → n1 < size → n2 < size
+          → (getD core target 0 < 2 ^ 46) × FirstBit (p .t1) × (n1 < 65536) × FirstBit (p .t2) × (n2 < 65536)
+      asks-two n1 n2 h1 h2 =
+          let v = ok .valid in let q = asks-one n1 h1 in (q .1, q .0, q .2, met-bits k ra rb p (ok .row) ep .1, omega arith)
+
       computed : (op : ℕ) (f : ℕ → ℕ → ℕ → Option ℕ) → effectOf op scene ≡ computes scene f (scene .target)
           → (v1 v2 next word : ℕ) → some v1 ≡ f size (p .a1 .0) (p .b1 .0) → some v2 ≡ f size (p .a2 .0) (p .b2 .0) → next ≡ ahead size pc 1
-          → word ≡ packed (withNumber (fieldBy (p .t2)) v2 (withNumber (fieldBy (p .t1)) v1 (unpacked (getD core target 0))))
+          → word ≡ packed (withNumber (fieldAt (p .t2)) v2 (withNumber (fieldAt (p .t1)) v1 (unpacked (getD core target 0))))
           → Does op scene core target w (Goes (absolute next) (w + 1)) (set core target word)
       computed op f ee v1 v2 next word e1 e2 en ew = does op _ (ee ∙ known) (rw en) (rw ew)
         where
@@ -104,30 +119,45 @@ module _ (size : ℕ) (core : List ℕ) (k pc jump target ra rb w : ℕ) where
           no-zero : some? (λ x. isNone (f size (x .a) (x .b))) scene ≡ false
           no-zero = some-two scene p shaped (λ x. isNone (f size (x .a) (x .b))) ∙ rw (← e1, ← e2)
 
-          filled : stored (f size) (mets scene) (scene .live) ≡ withNumber (fieldBy (p .t2)) v2 (withNumber (fieldBy (p .t1)) v1 (unpacked (getD core target 0)))
+          filled : stored (f size) (mets scene) (scene .live) ≡ withNumber (fieldAt (p .t2)) v2 (withNumber (fieldAt (p .t1)) v1 (unpacked (getD core target 0)))
           filled = stored-two scene p shaped (f size) (scene .live) ∙ rw (← e1, ← e2)
 
           known : computes scene f (scene .target)
-              ≡ record { cell = some (withNumber (fieldBy (p .t2)) v2 (withNumber (fieldBy (p .t1)) v1 (unpacked (getD core target 0)))); next = goes (ahead size pc 1) }
+              ≡ record { cell = some (withNumber (fieldAt (p .t2)) v2 (withNumber (fieldAt (p .t1)) v1 (unpacked (getD core target 0)))); next = goes (ahead size pc 1) }
           known = λ i. record { cell = cond (stores i) (some (filled i)) none; next = cond (no-zero i) (ends divisor) (goes (ahead size pc 1)) }
 
       pub move-fields : (k ≡ 6 → ⊥) → (next word : ℕ) → next ≡ ahead size pc 1
-          → word ≡ packed (withNumber (fieldBy (p .t2)) (p .a2 .0) (withNumber (fieldBy (p .t1)) (p .a1 .0) (unpacked (getD core target 0))))
+          → word ≡ packed (withNumber (fieldAt (p .t2)) (p .a2 .0) (withNumber (fieldAt (p .t1)) (p .a1 .0) (unpacked (getD core target 0))))
           → Does 1 scene core target w (Goes (absolute next) (w + 1)) (set core target word)
       move-fields n next word en ew = computed 1 machine.moved (moved-fields scene n) (p .a1 .0) (p .a2 .0) next word refl refl en ew
 
       pub summed : (op : ℕ) → 2 ≤ op → op < 5 → (v1 v2 next word : ℕ) → some v1 ≡ valueBy op size (p .a1 .0) (p .b1 .0)
           → some v2 ≡ valueBy op size (p .a2 .0) (p .b2 .0) → next ≡ ahead size pc 1
-          → word ≡ packed (withNumber (fieldBy (p .t2)) v2 (withNumber (fieldBy (p .t1)) v1 (unpacked (getD core target 0))))
+          → word ≡ packed (withNumber (fieldAt (p .t2)) v2 (withNumber (fieldAt (p .t1)) v1 (unpacked (getD core target 0))))
           → Does op scene core target w (Goes (absolute next) (w + 1)) (set core target word)
       summed op l u = computed op (valueBy op) (computes-at op scene l (omega arith))
+
+      pub summed-one : k < 4 → (op : ℕ) → 2 ≤ op → op < 5 → (v next word : ℕ) → some v ≡ valueBy op size (p .a1 .0) (p .b1 .0) → next ≡ ahead size pc 1
+          → word ≡ packed (withNumber (fieldAt (p .t1)) v (unpacked (getD core target 0)))
+          → Does op scene core target w (Goes (absolute next) (w + 1)) (set core target word)
+      summed-one h op l u v next word e en ew =
+          summed op l u v v next word e (e ∙ ap (λ (x : machine.Met). valueBy op size (x .a) (x .b)) (sym one)) en (ew ∙ ap packed twice)
+        where
+          one : lastOf p ≡ firstOf p
+          one = one-pair k ra rb p ep h
+
+          twice : withNumber (fieldAt (p .t1)) v (unpacked (getD core target 0))
+              ≡ withNumber (fieldAt (p .t2)) v (withNumber (fieldAt (p .t1)) v (unpacked (getD core target 0)))
+          twice =
+              put-twice (some v) (fieldAt (p .t1)) (unpacked (getD core target 0))
+              ∙ ap (λ (x : machine.Met). withNumber (x .target) v (withNumber (fieldAt (p .t1)) v (unpacked (getD core target 0)))) (sym one)
 
       module _ (op : ℕ) (l : 5 ≤ op) (u : op < 7) where
         -- DIV and MOD by which b is zero
         divided : (all one : Bool) → (eqb (p .b1 .0) 0 && eqb (p .b2 .0) 0) ≡ all → (eqb (p .b1 .0) 0 || eqb (p .b2 .0) 0) ≡ one
             → effectOf op scene
             ≡ record {
-              cell = cond (not all) (some (put (valueBy op size (p .a2 .0) (p .b2 .0)) (fieldBy (p .t2)) (put (valueBy op size (p .a1 .0) (p .b1 .0)) (fieldBy (p .t1)) (unpacked (getD core target 0))))) none;
+              cell = cond (not all) (some (put (valueBy op size (p .a2 .0) (p .b2 .0)) (fieldAt (p .t2)) (put (valueBy op size (p .a1 .0) (p .b1 .0)) (fieldAt (p .t1)) (unpacked (getD core target 0))))) none;
               next = cond one (ends divisor) (goes (ahead size pc 1));
             }
         divided all one ea eo = computes-at op scene (omega arith) u ∙ known
@@ -148,28 +178,52 @@ module _ (size : ℕ) (core : List ℕ) (k pc jump target ra rb w : ℕ) where
 
             known : computes scene (valueBy op) (scene .live)
                 ≡ record {
-                  cell = cond (not all) (some (put (valueBy op size (p .a2 .0) (p .b2 .0)) (fieldBy (p .t2)) (put (valueBy op size (p .a1 .0) (p .b1 .0)) (fieldBy (p .t1)) (unpacked (getD core target 0))))) none;
+                  cell = cond (not all) (some (put (valueBy op size (p .a2 .0) (p .b2 .0)) (fieldAt (p .t2)) (put (valueBy op size (p .a1 .0) (p .b1 .0)) (fieldAt (p .t1)) (unpacked (getD core target 0))))) none;
                   next = cond one (ends divisor) (goes (ahead size pc 1));
                 }
             known =
                 λ i. record { cell = cond (stores i) (some (stored-two scene p shaped (valueBy op size) (scene .live) i)) none; next = cond (zero-one i) (ends divisor) (goes (ahead size pc 1)) }
 
         -- the word that the code stores
-        parts : (half word : ℕ)
-            → half ≡ cond (eqb (p .b1 .0) 0) (getD core target 0) (packed (withNumber (fieldBy (p .t1)) (cond (eqb op 5) (p .a1 .0 / p .b1 .0) (p .a1 .0 % p .b1 .0)) (unpacked (getD core target 0))))
-            → word ≡ cond (eqb (p .b2 .0) 0) half (packed (withNumber (fieldBy (p .t2)) (cond (eqb op 5) (p .a2 .0 / p .b2 .0) (p .a2 .0 % p .b2 .0)) (unpacked half)))
-            → word ≡ packed (put (valueBy op size (p .a2 .0) (p .b2 .0)) (fieldBy (p .t2)) (put (valueBy op size (p .a1 .0) (p .b1 .0)) (fieldBy (p .t1)) (unpacked (getD core target 0))))
-        parts half word eh ew =
-            part-is op size (p .a2 .0) (p .b2 .0) (fieldBy (p .t2)) half word l u (below .a2) (ap packed half-is ∙ sym half-packed) ew
-            ∙ ap (λ (c : Cell). packed (put (valueBy op size (p .a2 .0) (p .b2 .0)) (fieldBy (p .t2)) c)) half-is
-          where
-            half-packed : half ≡ packed (put (valueBy op size (p .a1 .0) (p .b1 .0)) (fieldBy (p .t1)) (unpacked (getD core target 0)))
-            half-packed = part-is op size (p .a1 .0) (p .b1 .0) (fieldBy (p .t1)) (getD core target 0) half l u (below .a1) (whole size (getD core target 0) (ok .live)) eh
+        module _ (half : ℕ)
+            (eh : half ≡ cond (eqb (p .b1 .0) 0) (getD core target 0) (packed (withNumber (fieldAt (p .t1)) (cond (eqb op 5) (p .a1 .0 / p .b1 .0) (p .a1 .0 % p .b1 .0)) (unpacked (getD core target 0))))) where
+          half-packed : half ≡ packed (put (valueBy op size (p .a1 .0) (p .b1 .0)) (fieldAt (p .t1)) (unpacked (getD core target 0)))
+          half-packed = part-is op size (p .a1 .0) (p .b1 .0) (fieldAt (p .t1)) (getD core target 0) half l u (below .a1) (whole size (getD core target 0) (ok .live)) eh
 
-            half-is : unpacked half ≡ put (valueBy op size (p .a1 .0) (p .b1 .0)) (fieldBy (p .t1)) (unpacked (getD core target 0))
-            half-is =
-                ap unpacked half-packed
-                ∙ unpack-pack _ (put-range op size (p .a1 .0) (p .b1 .0) (fieldBy (p .t1)) (unpacked (getD core target 0)) l u (below .a1) (ok .valid) (word-range (getD core target 0)))
+          half-is : unpacked half ≡ put (valueBy op size (p .a1 .0) (p .b1 .0)) (fieldAt (p .t1)) (unpacked (getD core target 0))
+          half-is =
+              ap unpacked half-packed
+              ∙ unpack-pack _ (put-range op size (p .a1 .0) (p .b1 .0) (fieldAt (p .t1)) (unpacked (getD core target 0)) l u (below .a1) (ok .valid) (word-range (getD core target 0)))
+
+          pub asks-again : (half < 2 ^ 46) × FirstBit (p .t2) × (p .a2 .0 < 65536)
+          asks-again = let h = below .a2 in let v = ok .valid in (rw half-packed (packed-small _), met-bits k ra rb p (ok .row) ep .1, omega arith)
+
+          parts : (word : ℕ)
+              → word ≡ cond (eqb (p .b2 .0) 0) half (packed (withNumber (fieldAt (p .t2)) (cond (eqb op 5) (p .a2 .0 / p .b2 .0) (p .a2 .0 % p .b2 .0)) (unpacked half)))
+              → word ≡ packed (put (valueBy op size (p .a2 .0) (p .b2 .0)) (fieldAt (p .t2)) (put (valueBy op size (p .a1 .0) (p .b1 .0)) (fieldAt (p .t1)) (unpacked (getD core target 0))))
+          parts word ew =
+              part-is op size (p .a2 .0) (p .b2 .0) (fieldAt (p .t2)) half word l u (below .a2) (ap packed half-is ∙ sym half-packed) ew
+              ∙ ap (λ (c : Cell). packed (put (valueBy op size (p .a2 .0) (p .b2 .0)) (fieldAt (p .t2)) c)) half-is
+
+          -- of one pair, the half is the word
+          pub divided-one : k < 4 → (eqb (p .b1 .0) 0 && eqb (p .b2 .0) 0) ≡ false → (next : ℕ) → next ≡ ahead size pc 1
+              → Does op scene core target w (Goes (absolute next) (w + 1)) (set core target half)
+          divided-one h some-left next en = does op _ (divided false false some-left no-zero) (rw en) (ap (set core target) word-is)
+            where
+              one : lastOf p ≡ firstOf p
+              one = one-pair k ra rb p ep h
+
+              same-b : p .b2 .0 ≡ p .b1 .0
+              same-b = ap (λ (x : machine.Met). x .b) one
+
+              no-zero : (eqb (p .b1 .0) 0 || eqb (p .b2 .0) 0) ≡ false
+              no-zero = rw same-b (twice-or (eqb (p .b1 .0) 0) (rw same-b at some-left))
+
+              word-is : half ≡ packed (put (valueBy op size (p .a2 .0) (p .b2 .0)) (fieldAt (p .t2)) (put (valueBy op size (p .a1 .0) (p .b1 .0)) (fieldAt (p .t1)) (unpacked (getD core target 0))))
+              word-is =
+                  half-packed
+                  ∙ ap packed (put-twice (valueBy op size (p .a1 .0) (p .b1 .0)) (fieldAt (p .t1)) (unpacked (getD core target 0))
+                  ∙ ap (λ (x : machine.Met). put (valueBy op size (x .a) (x .b)) (x .target) (put (valueBy op size (p .a1 .0) (p .b1 .0)) (fieldAt (p .t1)) (unpacked (getD core target 0)))) (sym one))
 
         pub all-zero : (eqb (p .b1 .0) 0 && eqb (p .b2 .0) 0) ≡ true → Does op scene core target w (DivideByZero w) core
         all-zero e = does op _ (divided true true e one-too) (ap DivideByZero (sym (add-zero w))) refl
@@ -178,18 +232,18 @@ module _ (size : ℕ) (core : List ℕ) (k pc jump target ra rb w : ℕ) where
             one-too = rw (both (eqb (p .b1 .0) 0) (eqb (p .b2 .0) 0) e .0)
 
         module _ (half word : ℕ)
-            (eh : half ≡ cond (eqb (p .b1 .0) 0) (getD core target 0) (packed (withNumber (fieldBy (p .t1)) (cond (eqb op 5) (p .a1 .0 / p .b1 .0) (p .a1 .0 % p .b1 .0)) (unpacked (getD core target 0)))))
-            (ew : word ≡ cond (eqb (p .b2 .0) 0) half (packed (withNumber (fieldBy (p .t2)) (cond (eqb op 5) (p .a2 .0 / p .b2 .0) (p .a2 .0 % p .b2 .0)) (unpacked half))))
+            (eh : half ≡ cond (eqb (p .b1 .0) 0) (getD core target 0) (packed (withNumber (fieldAt (p .t1)) (cond (eqb op 5) (p .a1 .0 / p .b1 .0) (p .a1 .0 % p .b1 .0)) (unpacked (getD core target 0)))))
+            (ew : word ≡ cond (eqb (p .b2 .0) 0) half (packed (withNumber (fieldAt (p .t2)) (cond (eqb op 5) (p .a2 .0 / p .b2 .0) (p .a2 .0 % p .b2 .0)) (unpacked half))))
             (some-left : (eqb (p .b1 .0) 0 && eqb (p .b2 .0) 0) ≡ false) where
           pub one-zero : (eqb (p .b1 .0) 0 || eqb (p .b2 .0) 0) ≡ true → Does op scene core target w (DivideByZero (w + 1)) (set core target word)
-          one-zero e = does op _ (divided false true some-left e) refl (ap (set core target) (parts half word eh ew))
+          one-zero e = does op _ (divided false true some-left e) refl (ap (set core target) (parts half eh word ew))
 
           pub no-zero : (eqb (p .b1 .0) 0 || eqb (p .b2 .0) 0) ≡ false → (next : ℕ) → next ≡ ahead size pc 1
               → Does op scene core target w (Goes (absolute next) (w + 1)) (set core target word)
-          no-zero e next en = does op _ (divided false false some-left e) (rw en) (ap (set core target) (parts half word eh ew))
+          no-zero e next en = does op _ (divided false false some-left e) (rw en) (ap (set core target) (parts half eh word ew))
 
       pub counted : (n1 n2 word : ℕ) → n1 ≡ less size (p .b1 .0) → n2 ≡ less size (p .b2 .0)
-          → word ≡ packed (withNumber (fieldBy (p .t2)) n2 (withNumber (fieldBy (p .t1)) n1 (unpacked (getD core target 0))))
+          → word ≡ packed (withNumber (fieldAt (p .t2)) n2 (withNumber (fieldAt (p .t1)) n1 (unpacked (getD core target 0))))
           → (g : Bool) → (not (eqb n1 0) || not (eqb n2 0)) ≡ g → (r : ℕ) → r ≡ cond g jump (ahead size pc 1)
           → Does 10 scene core target w (Goes (absolute r) (w + 1)) (set core target word)
       counted n1 n2 word e1 e2 ew g eg r er = does 10 _ (counts-at scene ∙ known) (rw er) (rw ew)
@@ -197,11 +251,11 @@ module _ (size : ℕ) (core : List ℕ) (k pc jump target ra rb w : ℕ) where
           some-left : some? (λ x. not (eqb (less size (x .b)) 0)) scene ≡ g
           some-left = some-two scene p shaped (λ x. not (eqb (less size (x .b)) 0)) ∙ rw (← e1, ← e2) eg
 
-          filled : stored (machine.lowered size) (mets scene) (scene .live) ≡ withNumber (fieldBy (p .t2)) n2 (withNumber (fieldBy (p .t1)) n1 (unpacked (getD core target 0)))
+          filled : stored (machine.lowered size) (mets scene) (scene .live) ≡ withNumber (fieldAt (p .t2)) n2 (withNumber (fieldAt (p .t1)) n1 (unpacked (getD core target 0)))
           filled = stored-two scene p shaped (machine.lowered size) (scene .live) ∙ rw (e1, e2)
 
           known : machine.counts scene
-              ≡ record { cell = some (withNumber (fieldBy (p .t2)) n2 (withNumber (fieldBy (p .t1)) n1 (unpacked (getD core target 0)))); next = goes (cond g jump (ahead size pc 1)) }
+              ≡ record { cell = some (withNumber (fieldAt (p .t2)) n2 (withNumber (fieldAt (p .t1)) n1 (unpacked (getD core target 0)))); next = goes (cond g jump (ahead size pc 1)) }
           known = λ i. record { cell = some (filled i); next = goes (cond (some-left i) jump (ahead size pc 1)) }
 
       -- CMP, SEQ, SNE and SLT

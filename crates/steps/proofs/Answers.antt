@@ -88,7 +88,7 @@ module _ (m : Machine) (ready : Ready m) (play : Playable m) where
   pub step-left : m .header .steps ≤ 4294967295 → m .header .steps < 4294967295
   step-left h = let n : m .header .steps ≡ 4294967295 → ⊥ = eqb-false _ _ (unworn .0) in omega arith
 
-  here-sound : soundWord size (getD (m .core) (pc m) 0) ≡ true
+  pub here-sound : soundWord size (getD (m .core) (pc m) 0) ≡ true
   here-sound = not-false (soundWord size (getD (m .core) (pc m) 0)) (passed .3)
 
   fetched-is : Fetched (m .header .rules) (m .core) (pc m) (getD (m .core) (pc m) 0)
@@ -118,6 +118,7 @@ module _ (m : Machine) (ready : Ready m) (play : Playable m) where
         some = nonzero (passed .0);
         limit = l;
         behind = e;
+        upper = at-front .top;
         sixteen = ready .counts;
         count = at-front .count;
         counted = omega arith;

@@ -1,3 +1,4 @@
+pub mod FieldBits
 pub mod Copies
 pub mod FieldPairs
 pub mod Arithmetic

@@ -4,20 +4,40 @@ use mathlib.Core.Path.{_≡_, sym, ap, ap₂, _∙_}
 use mathlib.Core.Bool.{true}
 use mathlib.Core.List.{List}
 use Prim.Native.Nat.{ℕ, _/_, _%_, _^_, _≤_, _<_, zero-le}
+use native.Mathlib.Omega.{arith}
 use lib.ListN.{length, getD, set}
 use Rattle.laws.proofs.Cases.{span}
 use Rattle.offset.specs.declared.Absolute.{Absolute}
 use Rattle.offset.specs.Offset.{ahead}
+use Rattle.types.specs.Types.{Field}
 use Rattle.cell.specs.Cells.{packed, unpacked, soundWord, number, withNumber}
+use Rattle.cell.proofs.Soundness.{sound-fields}
+use Rattle.word.proofs.Cells.{ahead-below, number-below}
 use Rattle.machine.specs.declared.Rules.{Rules}
 use Rattle.machine.specs.Pointers as machine
-use Rattle.machine.specs.Pointers.{shifts, keeps, shifted, siteAt, operand}
+use Rattle.machine.specs.Pointers.{Shift, shifts, keeps, lowers, raises, less, more, shifted, siteAt, operand}
 use Rattle.word.specs.Words.{fieldBy}
 use Rattle.address.specs.Rounding.{incremented, aimed}
 use Rattle.address.specs.inner.Operands.{soundSeen, Ready}
 use Rattle.address.proofs.Pointing as law
 use Rattle.steps.specs.declared.operand.Operand.{Operand}
 use Rattle.steps.specs.inner.Instruction.{operandOf}
+
+-- the number that a pointer is made of, and one more, fit a field
+aimed-small : (t : Shift) (size n : ℕ) → n < size → size ≤ 46341 → aimed t size n < 65536
+aimed-small keeps size n h l = omega arith
+aimed-small lowers size n h l = let k : less size n < size = ahead-below _ _ h in rw (law.is-less size n h) (omega arith)
+aimed-small raises size n h l = omega arith
+
+raised-small : (size n : ℕ) → n < size → size ≤ 46341 → incremented size n < 65536
+raised-small size n h l = let k : more size n < size = ahead-below _ _ h in rw (law.is-more size n h) (omega arith)
+
+-- a field by another name
+pub number-by : {f g : Field} → f ≡ g → (w : ℕ) {n : ℕ} → n ≡ number f (unpacked w) → n ≡ number g (unpacked w)
+number-by e w h = h ∙ ap (λ (f : Field). number f (unpacked w)) e
+
+pub with-by : {f g : Field} → f ≡ g → (w n : ℕ) {v : ℕ} → v ≡ packed (withNumber f n (unpacked w)) → v ≡ packed (withNumber g n (unpacked w))
+with-by e w n h = h ∙ ap (λ (f : Field). packed (withNumber f n (unpacked w))) e
 
 module _ (rules : Rules) (core : List ℕ) (pc mode n : ℕ) where
   abbrev its : machine.Operand
@@ -41,12 +61,24 @@ module _ (rules : Rules) (core : List ℕ) (pc mode n : ℕ) where
     there-sound : soundWord size (getD core (location .0) 0) ≡ true
     there-sound = rw is (law.read-sound rules core pc mode n seen)
 
+    pub there-small : getD core (location .0) 0 < 2 ^ 46
+    there-small = sound-fields size (getD core (location .0) 0) there-sound .0
+
     pub dollar : mode ≡ 1 → Gives (record { pointer = location; register = getD core (location .0) 0 }) core
     dollar e = gives {pointer = location} (law.dollar rules core pc mode n (location .0) is there-sound e)
 
     module _ (k : Ready rules core pc n) (two : 2 ≤ mode) (eight : mode < 8) (found to : ℕ) (pointer : Absolute)
         (es : found ≡ number (fieldBy (mode % 2)) (unpacked (getD core (location .0) 0))) (et : to ≡ aimed (getD shifts mode keeps) size found)
         (ep : pointer .0 ≡ ahead size (location .0) to) where
+      found-below : found < size
+      found-below = rw es (number-below (fieldBy (mode % 2)) size (getD core (location .0) 0) there-sound)
+
+      pub to-small : to < 65536
+      to-small = rw et (aimed-small (getD shifts mode keeps) size found found-below (k .valid))
+
+      pub up-small : {up : ℕ} → up ≡ incremented size found → up < 65536
+      up-small e = rw e (raised-small size found found-below (k .valid))
+
       pointed : soundWord size (getD core (pointer .0) 0) ≡ true
       pointed =
           rw (← law.points rules core pc mode n (location .0) is there-sound two eight found to (pointer .0) es et ep)

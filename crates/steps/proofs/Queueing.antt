@@ -3,7 +3,7 @@
 use mathlib.Core.Path.{_≡_, refl, sym, ap, ap₂, subst, _∙_}
 use mathlib.Core.Bool.{Bool, true, false, cond}
 use mathlib.Core.List.{List}
-use Prim.Native.Nat.{ℕ, _+_, _-_, _%_, _≤_, _<_}
+use Prim.Native.Nat.{ℕ, _+_, _-_, _%_, _^_, _≤_, _<_}
 use native.Mathlib.Nat.{mod-lt, mod-add-mod}
 use native.Mathlib.Omega.{arith}
 use lib.Dec.{eqb}
@@ -96,6 +96,10 @@ module _ {queue counts threads : List ℕ} {head length′ tail : ℕ} (f : Fron
 
   pub tail-lt : tail < length queue
   tail-lt = rw (f .behind) (mod-lt (head + length′) (let h = f .head in omega arith))
+
+  -- the front entry's word has 52 bits
+  pub front-lt : {w : ℕ} → w ≡ getD queue head 0 → w < 2 ^ 52
+  front-lt e = let u = f .upper in omega arith
 
   -- the front entry pushed at another place
   abbrev moved : ℕ → List ℕ

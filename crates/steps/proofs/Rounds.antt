@@ -2,7 +2,7 @@
 -- Assumes nothing.
 use mathlib.Core.Path.{_≡_, refl, sym, ap, subst, _∙_}
 use mathlib.Core.Bool.{Bool, true, false, cond}
-use Prim.Native.Nat.{ℕ, _+_, _-_, _*_, _≤_, _<_}
+use Prim.Native.Nat.{ℕ, _+_, _-_, _*_, _^_, _≤_, _<_}
 use native.Mathlib.Nat.{add-zero}
 use native.Mathlib.Omega.{arith}
 use lib.Dec.{eqb}
@@ -11,6 +11,7 @@ use lib.ListN.{length, getD}
 use Rattle.answer.specs.Numbers.{Told, told}
 use Rattle.answer.specs.declared.Answer.the-variants.{PrivateMemory}
 use Rattle.cell.specs.Cells.{unpacked}
+use Rattle.cell.proofs.Soundness.{sound-fields}
 use Rattle.machine.specs.State.{Machine}
 use Rattle.machine.specs.Step.{pc, executed}
 use Rattle.lent.specs.Parts.{queueOf}
@@ -18,7 +19,7 @@ use Rattle.lent.specs.Given.{Given, given, givenBy}
 use Rattle.steps.specs.inner.Instruction.{Executable}
 use Rattle.steps.specs.inner.Queueing.{tailOf, Front}
 use Rattle.steps.specs.inner.Ready.{Ready, stepOf, playsOf, Playable, Scanned}
-use Rattle.steps.proofs.Answers.{step-left, fetches, front-is, private-step, executable, executed-step}
+use Rattle.steps.proofs.Answers.{step-left, here-sound, fetches, front-is, private-step, executable, executed-step}
 use Rattle.steps.proofs.Trust.{Playing, playable, plays-on}
 use Rattle.steps.proofs.Loop.{Going, as-run, onward, few-writes, stopped, reaches, again}
 
@@ -41,6 +42,9 @@ module _ {until : ℕ} {start m : Machine} {w tail : ℕ} (g : Round until start
 
   pub can-fetch : (m .header .ring .head < length (m .queue)) × (pc m < length (m .core))
   can-fetch = fetches m (g .going .ready) can-play
+
+  pub cell-small : getD (m .core) (pc m) 0 < 2 ^ 46
+  cell-small = sound-fields (m .header .rules .size) (getD (m .core) (pc m) 0) (here-sound m (g .going .ready) can-play) .0
 
   -- the cell that was fetched
   module _ {cell op : ℕ} (fetched : cell ≡ getD (m .core) (pc m) 0) (is : op ≡ unpacked cell .opcode) where

@@ -2,19 +2,21 @@
 ghost use mathlib.Core.Path.{_≡_};
 ghost use mathlib.Core.Bool.{cond, not, _&&_, _||_};
 ghost use mathlib.Core.Option.{some};
-ghost use Prim.Native.Nat.{_<_, _≤_, _/_, _%_};
+ghost use Prim.Native.Nat.{_<_, _≤_, _/_, _%_, _^_};
 ghost use lib.Dec.{eqb, ltb};
 ghost use lib.ListN.{getD};
+ghost use Rattle.types.specs.Types.{fieldPairs};
 ghost use Rattle.cell.specs.Cells.{packed, unpacked, withNumber};
-ghost use Rattle.word.specs.Words.{fieldBy};
-ghost use Rattle.steps.specs.inner.Acts.{copyOf, sceneOf, valueBy, SoundScene, Answers, Does};
+ghost use Rattle.steps.specs.inner.Acts.{copyOf, FirstBit, fieldAt, sceneOf, valueBy, SoundScene, Answers, Does};
 use crate::modifier::Met;
 use crate::modifier::meet;
 use crate::modifier::modifier;
+use crate::modifier::with_number_at;
 use offset::Absolute;
 use offset::Relative;
 use offset::add;
 use offset::plus;
+use types::modifier::F;
 use types::modifier::I;
 use types::opcode::ADD;
 use types::opcode::CMP;
@@ -34,8 +36,6 @@ use types::opcode::SNE;
 use types::opcode::SPL;
 use types::opcode::STP;
 use types::opcode::SUB;
-use word::opcode;
-use word::with_number;
 
 // What an instruction answers: the next place, beside it the place of SPL's child, or how it ends; and the writes.
 pub(crate) enum Executed {
@@ -43,6 +43,14 @@ pub(crate) enum Executed {
     Splits(Absolute, Absolute, u32),
     Dat(u32),
     DivideByZero(u32),
+}
+
+// The opcode's number of a sound cell.
+pub(crate) fn opcode(w: u64) -> u64
+    requires { ⌜ w < 2 ^ 46 ⌝ }
+    ensures { λ r. ⌜ r ≡ unpacked w .opcode ⌝ }
+{
+    w >> 41
 }
 
 // A cell copied over another: opcode, modifier and numbers, not modes.
@@ -53,16 +61,17 @@ fn copy(to: u64, from: u64) -> u64
 }
 
 // The target word with a number in each target field, first pair first.
-fn store(t: u64, t1: u8, n1: Relative, t2: u8, n2: Relative) -> u64
-    requires { ⌜ n1 .0 < 65536 ⌝ }
-    ensures { λ r. ⌜ r ≡ packed (withNumber (fieldBy t2) (n2 .0) (withNumber (fieldBy t1) (n1 .0) (unpacked t))) ⌝ }
+fn store(t: u64, t1: u64, n1: Relative, t2: u64, n2: Relative) -> u64
+    requires { ⌜ (t < 2 ^ 46) × FirstBit t1 × (n1 .0 < 65536) × FirstBit t2 × (n2 .0 < 65536) ⌝ }
+    ensures { λ r. ⌜ r ≡ packed (withNumber (fieldAt t2) (n2 .0) (withNumber (fieldAt t1) (n1 .0) (unpacked t))) ⌝ }
 {
-    with_number(with_number(t, t1, n1), t2, n2)
+    with_number_at(with_number_at(t, t1, n1), t2, n2)
 }
 
 // MOV: a goes to the target; under I opcode and modifier do, too.
 fn moves(
     core: &mut [u64],
+    pairs: &[[u64; 4]; 7],
     size: u32,
     pc: Absolute,
     modifier: u8,
@@ -71,7 +80,7 @@ fn moves(
     rb: u64,
     w: u32,
 ) -> Executed
-    requires { ⌜ SoundScene size (now core) modifier (pc .0) (target .0) ra rb w ⌝ }
+    requires { ⌜ SoundScene size (now core) modifier (pc .0) (target .0) ra rb w × (now pairs ≡ fieldPairs) ⌝ }
     ensures { λ r. ⌜ Does 1 (sceneOf size modifier (pc .0) 0 ra rb (getD (now (core .entry)) (target .0) 0)) (now (core .entry)) (target .0) w r (now (core .exit)) ⌝ }
 {
     let next = add(pc, Relative(1), size);
@@ -81,7 +90,7 @@ fn moves(
         core[at] = copy(t, ra);
         return Executed::Goes(next, w + 1);
     }
-    let p = meet(modifier, ra, rb);
+    let p = meet(pairs, modifier, ra, rb);
     let a1 = p.a1;
     let a2 = p.a2;
     let moved = store(t, p.t1, a1, p.t2, a2);
@@ -107,6 +116,7 @@ fn value(opcode: u64, size: u32, a: Relative, b: Relative) -> Relative
 // ADD, SUB and MUL.
 fn sums(
     core: &mut [u64],
+    pairs: &[[u64; 4]; 7],
     size: u32,
     pc: Absolute,
     opcode: u64,
@@ -116,39 +126,45 @@ fn sums(
     rb: u64,
     w: u32,
 ) -> Executed
-    requires { ⌜ SoundScene size (now core) modifier (pc .0) (target .0) ra rb w × (2 ≤ opcode) × (opcode < 5) ⌝ }
+    requires { ⌜ SoundScene size (now core) modifier (pc .0) (target .0) ra rb w × (2 ≤ opcode) × (opcode < 5) × (now pairs ≡ fieldPairs) ⌝ }
     ensures { λ r. ⌜ Does opcode (sceneOf size modifier (pc .0) 0 ra rb (getD (now (core .entry)) (target .0) 0)) (now (core .entry)) (target .0) w r (now (core .exit)) ⌝ }
 {
     let next = add(pc, Relative(1), size);
-    let p = meet(modifier, ra, rb);
+    let p = meet(pairs, modifier, ra, rb);
     let a1 = p.a1;
     let b1 = p.b1;
     let a2 = p.a2;
     let b2 = p.b2;
     let v1 = value(opcode, size, a1, b1);
-    let v2 = value(opcode, size, a2, b2);
     let at = target.0 as usize;
     let t = core[at];
+    if modifier < F {
+        core[at] = with_number_at(t, p.t1, v1);
+        return Executed::Goes(next, w + 1);
+    }
+    let v2 = value(opcode, size, a2, b2);
     core[at] = store(t, p.t1, v1, p.t2, v2);
     Executed::Goes(next, w + 1)
 }
 
 // DIV a/b and MOD a mod b in a target field, which a zero b leaves.
-fn part(opcode: u64, t: u64, field: u8, a: Relative, b: Relative) -> u64
-    ensures { λ r. ⌜ r ≡ cond (eqb (b .0) 0) t (packed (withNumber (fieldBy field) (cond (eqb opcode 5) (a .0 / b .0) (a .0 % b .0)) (unpacked t))) ⌝ }
+fn part(opcode: u64, t: u64, bit: u64, a: Relative, b: Relative) -> u64
+    requires { ⌜ (t < 2 ^ 46) × FirstBit bit × (a .0 < 65536) ⌝ }
+    ensures { λ r. ⌜ r ≡ cond (eqb (b .0) 0) t (packed (withNumber (fieldAt bit) (cond (eqb opcode 5) (a .0 / b .0) (a .0 % b .0)) (unpacked t))) ⌝ }
 {
     if b.0 == 0 {
         return t;
     }
     if opcode == DIV {
-        return with_number(t, field, Relative(a.0 / b.0));
+        return with_number_at(t, bit, Relative(a.0 / b.0));
     }
-    with_number(t, field, Relative(a.0 % b.0))
+    with_number_at(t, bit, Relative(a.0 % b.0))
 }
 
 // DIV and MOD: a zero b ends the process, the other field is still written.
 fn divides(
     core: &mut [u64],
+    pairs: &[[u64; 4]; 7],
     size: u32,
     pc: Absolute,
     opcode: u64,
@@ -158,10 +174,10 @@ fn divides(
     rb: u64,
     w: u32,
 ) -> Executed
-    requires { ⌜ SoundScene size (now core) modifier (pc .0) (target .0) ra rb w × (5 ≤ opcode) × (opcode < 7) ⌝ }
+    requires { ⌜ SoundScene size (now core) modifier (pc .0) (target .0) ra rb w × (5 ≤ opcode) × (opcode < 7) × (now pairs ≡ fieldPairs) ⌝ }
     ensures { λ r. ⌜ Does opcode (sceneOf size modifier (pc .0) 0 ra rb (getD (now (core .entry)) (target .0) 0)) (now (core .entry)) (target .0) w r (now (core .exit)) ⌝ }
 {
-    let p = meet(modifier, ra, rb);
+    let p = meet(pairs, modifier, ra, rb);
     let a1 = p.a1;
     let b1 = p.b1;
     let a2 = p.a2;
@@ -172,6 +188,11 @@ fn divides(
     let at = target.0 as usize;
     let t = core[at];
     let half = part(opcode, t, p.t1, a1, b1);
+    if modifier < F {
+        core[at] = half;
+        let after = add(pc, Relative(1), size);
+        return Executed::Goes(after, w + 1);
+    }
     core[at] = part(opcode, half, p.t2, a2, b2);
     if (b1.0 == 0) | (b2.0 == 0) {
         return Executed::DivideByZero(w + 1);
@@ -192,6 +213,7 @@ fn tests(opcode: u64, b1: Relative, b2: Relative) -> bool
 
 // JMZ and JMN.
 fn jumps(
+    pairs: &[[u64; 4]; 7],
     size: u32,
     pc: Absolute,
     opcode: u64,
@@ -201,10 +223,10 @@ fn jumps(
     rb: u64,
     w: u32,
 ) -> Executed
-    requires { ⌜ (modifier ≤ 6) × (pc .0 < size) × (size ≤ 46341) × (8 ≤ opcode) × (opcode < 10) ⌝ }
+    requires { ⌜ (modifier ≤ 6) × (pc .0 < size) × (size ≤ 46341) × (8 ≤ opcode) × (opcode < 10) × (now pairs ≡ fieldPairs) ⌝ }
     ensures { λ r. ⌜ Answers opcode (sceneOf size modifier (pc .0) (jump .0) ra rb 0) w r ⌝ }
 {
-    let p = meet(modifier, ra, rb);
+    let p = meet(pairs, modifier, ra, rb);
     let b1 = p.b1;
     let b2 = p.b2;
     if tests(opcode, b1, b2) {
@@ -217,6 +239,7 @@ fn jumps(
 // DJN: stores b-1 and goes when some result isn't 0.
 fn decrements_and_jumps(
     core: &mut [u64],
+    pairs: &[[u64; 4]; 7],
     size: u32,
     pc: Absolute,
     modifier: u8,
@@ -226,12 +249,12 @@ fn decrements_and_jumps(
     rb: u64,
     w: u32,
 ) -> Executed
-    requires { ⌜ SoundScene size (now core) modifier (pc .0) (target .0) ra rb w ⌝ }
+    requires { ⌜ SoundScene size (now core) modifier (pc .0) (target .0) ra rb w × (now pairs ≡ fieldPairs) ⌝ }
     ensures { λ r. ⌜ Does 10 (sceneOf size modifier (pc .0) (jump .0) ra rb (getD (now (core .entry)) (target .0) 0)) (now (core .entry)) (target .0) w r (now (core .exit)) ⌝ }
 {
     let at = target.0 as usize;
     let live = core[at];
-    let met = meet(modifier, ra, rb);
+    let met = meet(pairs, modifier, ra, rb);
     let b1 = met.b1;
     let b2 = met.b2;
     let n1 = plus(b1, Relative(size - 1), size);
@@ -261,8 +284,9 @@ fn passes(opcode: u64, modifier: u8, live: u64, ra: u64, p: Met) -> bool
 }
 
 // CMP, SEQ, SNE and SLT: skip, or go on.
-fn skips(
-    core: &[u64],
+fn skips<'a>(
+    core: &'a [u64],
+    pairs: &'a [[u64; 4]; 7],
     size: u32,
     pc: Absolute,
     opcode: u64,
@@ -272,11 +296,11 @@ fn skips(
     rb: u64,
     w: u32,
 ) -> Executed
-    requires { ⌜ SoundScene size (now core) modifier (pc .0) (target .0) ra rb w × (11 ≤ opcode) × (opcode < 15) ⌝ }
+    requires { ⌜ SoundScene size (now core) modifier (pc .0) (target .0) ra rb w × (11 ≤ opcode) × (opcode < 15) × (now pairs ≡ fieldPairs) ⌝ }
     ensures { λ r. ⌜ Does opcode (sceneOf size modifier (pc .0) 0 ra rb (getD (now (core .entry)) (target .0) 0)) (now (core .entry)) (target .0) w r (now (core .entry)) ⌝ }
 {
     let next = add(pc, Relative(1), size);
-    let p = meet(modifier, ra, rb);
+    let p = meet(pairs, modifier, ra, rb);
     let at = target.0 as usize;
     let live = core[at];
     if passes(opcode, modifier, live, ra, p) {
@@ -289,6 +313,7 @@ fn skips(
 // The nineteen opcodes, after both operands, which made w writes. LDP and STP are refused before: the last two arms are never reached.
 pub(crate) fn act(
     core: &mut [u64],
+    pairs: &[[u64; 4]; 7],
     size: u32,
     pc: Absolute,
     here: u64,
@@ -298,7 +323,7 @@ pub(crate) fn act(
     rb: u64,
     w: u32,
 ) -> Executed
-    requires { ⌜ SoundScene size (now core) (unpacked here .modifier) (pc .0) (target .0) ra rb w × (unpacked here .opcode ≤ 16) ⌝ }
+    requires { ⌜ SoundScene size (now core) (unpacked here .modifier) (pc .0) (target .0) ra rb w × (unpacked here .opcode ≤ 16) × (here < 2 ^ 46) × (now pairs ≡ fieldPairs) ⌝ }
     ensures { λ r. ⌜ Does (unpacked here .opcode) (sceneOf size (unpacked here .modifier) (pc .0) (jump .0) ra rb (getD (now (core .entry)) (target .0) 0))
         (now (core .entry)) (target .0) w r (now (core .exit)) ⌝ }
 {
@@ -306,13 +331,13 @@ pub(crate) fn act(
     let k = modifier(here);
     match op {
         DAT => Executed::Dat(w),
-        MOV => moves(core, size, pc, k, ra, target, rb, w),
-        ADD..=MUL => sums(core, size, pc, op, k, ra, target, rb, w),
-        DIV..=MOD => divides(core, size, pc, op, k, ra, target, rb, w),
+        MOV => moves(core, pairs, size, pc, k, ra, target, rb, w),
+        ADD..=MUL => sums(core, pairs, size, pc, op, k, ra, target, rb, w),
+        DIV..=MOD => divides(core, pairs, size, pc, op, k, ra, target, rb, w),
         JMP => Executed::Goes(jump, w),
-        JMZ..=JMN => jumps(size, pc, op, k, jump, ra, rb, w),
-        DJN => decrements_and_jumps(core, size, pc, k, jump, ra, target, rb, w),
-        CMP..=SLT => skips(core, size, pc, op, k, ra, target, rb, w),
+        JMZ..=JMN => jumps(pairs, size, pc, op, k, jump, ra, rb, w),
+        DJN => decrements_and_jumps(core, pairs, size, pc, k, jump, ra, target, rb, w),
+        CMP..=SLT => skips(core, pairs, size, pc, op, k, ra, target, rb, w),
         SPL => {
             let on = add(pc, Relative(1), size);
             Executed::Splits(on, jump, w)

@@ -1,19 +1,25 @@
 // Operands of an instruction that is not refused: where they point, and the cells that they read and change (01, 'Pointers').
 ghost use mathlib.Core.Path.{_≡_};
 ghost use mathlib.Core.Bool.{true};
-ghost use Prim.Native.Nat.{_<_, _≤_};
+ghost use Prim.Native.Nat.{_%_, _<_, _≤_};
 ghost use lib.ListN.{length, getD, set};
 ghost use Rattle.cell.specs.Cells.{unpacked, soundWord};
 ghost use Rattle.machine.specs.Pointers as spec;
 ghost use Rattle.machine.specs.Instruction.{fetched, aOperand};
 ghost use Rattle.address.specs.inner.Operands.{Ready, Fetched, soundSeen};
+ghost use Rattle.word.specs.Words.{fieldBy};
 ghost use Rattle.steps.specs.inner.Instruction.{operandOf};
+ghost use Rattle.steps.specs.inner.Acts.{FirstBit, fieldAt};
+use crate::modifier::number_at;
+use crate::modifier::with_number_at;
 use address::aim;
 use address::increment;
 use machine::Rules;
 use offset::Absolute;
 use offset::Relative;
 use offset::add;
+use types::field::A;
+use types::field::B;
 use types::mode::IMMEDIATE;
 use types::mode::INDIRECT_A;
 use types::mode::POST_INC_INDIRECT_A;
@@ -21,7 +27,6 @@ use types::mode::PRE_DEC_INDIRECT_A;
 use word::a_mode;
 use word::b_mode;
 use word::number;
-use word::with_number;
 
 // An operand: its pointer and a copy of the cell there.
 pub(crate) struct Operand {
@@ -71,6 +76,16 @@ fn raise(core: &mut [u64], at: usize, there: usize, raised: u64) -> u64
     copied
 }
 
+// The first bit of the field that a mode goes through: the A number's for an even mode, the B number's for an odd one.
+fn field_of(mode: u64) -> u64
+    ensures { λ r. ⌜ FirstBit r × (fieldAt r ≡ fieldBy (mode % 2)) ⌝ }
+{
+    if mode % 2 == 0 {
+        return A;
+    }
+    B
+}
+
 // The six modes that go through the A number (even) or the B number (odd) of the cell at the location.
 fn indirect(core: &mut [u64], rules: Rules, pc: Absolute, mode: u64, n: Relative) -> Operand
     requires { ⌜ Ready rules (now core) (pc .0) (n .0) × (2 ≤ mode) × (mode < 8)
@@ -82,8 +97,8 @@ fn indirect(core: &mut [u64], rules: Rules, pc: Absolute, mode: u64, n: Relative
     let location = add(pc, n, size);
     let at = location.0 as usize;
     let old = core[at];
-    let field = (mode % 2) as u8;
-    let found = number(old, field);
+    let bit = field_of(mode);
+    let found = number_at(old, bit);
     let to = aim(size, mode, found);
     let pointer = add(location, to, size);
     let there = pointer.0 as usize;
@@ -95,11 +110,11 @@ fn indirect(core: &mut [u64], rules: Rules, pc: Absolute, mode: u64, n: Relative
         };
     }
     if mode < POST_INC_INDIRECT_A {
-        let register = lower(core, at, there, with_number(old, field, to));
+        let register = lower(core, at, there, with_number_at(old, bit, to));
         return Operand { pointer, register };
     }
     let more = increment(found, size);
-    let register = raise(core, at, there, with_number(old, field, more));
+    let register = raise(core, at, there, with_number_at(old, bit, more));
     Operand { pointer, register }
 }
 

@@ -1,20 +1,19 @@
 // What an executed instruction does to the ring: the front entry is popped, and the next places are pushed. The tail is the slot that the next entry goes to.
 ghost use mathlib.Core.Path.{_≡_};
 ghost use mathlib.Core.Bool.{cond};
-ghost use Prim.Native.Nat.{ℕ, _+_, _-_, _<_, _≤_};
+ghost use Prim.Native.Nat.{ℕ, _+_, _-_, _^_, _<_, _≤_};
 ghost use lib.Dec.{eqb};
 ghost use lib.ListN as lists;
 ghost use lib.ListN.{getD, set};
 ghost use Rattle.answer.specs.Numbers.{told, gives};
 ghost use Rattle.offset.specs.Offset.{ahead};
-ghost use Rattle.machine.specs.Queue.{full, started};
+ghost use Rattle.machine.specs.Queue.{packedEntry, unpackedEntry, entry, full, started};
 ghost use Rattle.lent.specs.Parts.{queueOf};
-ghost use Rattle.steps.specs.inner.Queueing.{ringOf, Front, Requeued};
+ghost use Rattle.steps.specs.inner.Queueing.{ringOf, Front, Near, Requeued};
 use crate::opcode::Executed;
 use answer::Answer;
 use entry::pack;
 use entry::unpack;
-use entry::with_place;
 use machine::Entry;
 use offset::Absolute;
 
@@ -116,6 +115,14 @@ fn end_process(counts: &mut [u32; 16], name: u8, answer: Answer) -> Answer
     Answer::Done
 }
 
+// The word of a sound entry at another place.
+fn moved(w: u64, place: Absolute) -> u64
+    requires { ⌜ (w < 2 ^ 52) × (place .0 < 65536) ⌝ }
+    ensures { λ r. ⌜ r ≡ packedEntry (entry (place .0) (unpackedEntry w .thread) (unpackedEntry w .name)) ⌝ }
+{
+    w - (w & 0xffff) + place.0 as u64
+}
+
 // The front entry is popped, and pushed again as it was executed.
 pub(crate) fn requeue(
     queue: &mut [u64],
@@ -127,15 +134,14 @@ pub(crate) fn requeue(
     w: u64,
     executed: Executed,
 ) -> Stepped
-    requires { ⌜ Front (queueOf (now queue) (ringOf head length) (now counts) (now threads)) tail × (w ≡ getD (now queue) head 0) ⌝ }
+    requires { ⌜ Front (queueOf (now queue) (ringOf head length) (now counts) (now threads)) tail × (w ≡ getD (now queue) head 0) × Near executed ⌝ }
     ensures { λ r. ⌜ Requeued (queueOf (now (queue .entry)) (ringOf head length) (now (counts .entry)) (now (threads .entry))) executed r
         (now (queue .exit)) (now (counts .exit)) (now (threads .exit)) ⌝ }
 {
-    let e = unpack(w);
     let after = slot_after(head, queue.len() as u32);
     match executed {
         Executed::Goes(next, writes) => {
-            let pushed = push(queue, tail, with_place(w, next));
+            let pushed = push(queue, tail, moved(w, next));
             Stepped {
                 answer: Answer::Done,
                 writes,
@@ -145,7 +151,8 @@ pub(crate) fn requeue(
             }
         }
         Executed::Splits(next, child, writes) => {
-            let pushed = push(queue, tail, with_place(w, next));
+            let pushed = push(queue, tail, moved(w, next));
+            let e = unpack(w);
             let g = start_child(queue, counts, threads, pushed, length, child, e.name);
             Stepped {
                 answer: Answer::Done,
@@ -156,6 +163,7 @@ pub(crate) fn requeue(
             }
         }
         Executed::Dat(writes) => {
+            let e = unpack(w);
             let answer = end_process(counts, e.name, Answer::ExecuteDat(e.place.0));
             Stepped {
                 answer,
@@ -166,6 +174,7 @@ pub(crate) fn requeue(
             }
         }
         Executed::DivideByZero(writes) => {
+            let e = unpack(w);
             let answer = end_process(counts, e.name, Answer::DivideByZero);
             Stepped {
                 answer,

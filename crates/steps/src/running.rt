@@ -4,11 +4,13 @@ ghost use mathlib.Core.Bool.{true, cond};
 ghost use Prim.Native.Nat.{_+_, _-_, _≤_};
 ghost use lib.Dec.{eqb};
 ghost use Rattle.answer.specs.Numbers.{told, gives};
+ghost use Rattle.types.specs.Types.{fieldPairs};
 ghost use Rattle.refusal.specs.Checks as check;
 ghost use Rattle.lent.specs.Parts.{unnamed};
 ghost use Rattle.lent.specs.Given.{given, givenBy};
 ghost use Rattle.steps.specs.inner.Ready.{Ready, playsOf, Plays, Scanned, ranOf};
 use crate::Ran;
+use crate::opcode::opcode;
 use crate::stepping::fetch;
 use crate::stepping::step_once;
 use answer::Answer;
@@ -18,8 +20,8 @@ use machine::Rules;
 use queue::slot_ahead;
 use refusal::refusal;
 use scan::scan;
+use types::field_pairs;
 use types::opcode::NOP;
-use word::opcode;
 
 // Whether an answer is 0.
 fn is_done(answer: Answer) -> bool
@@ -46,6 +48,7 @@ fn ran(answer: Answer, writes: u64, head: u32, length: u32, before: u32, taken: 
 // Steps while steps taken are below a ceiling, up to the first answer not 0, where each can be refused by 10 only.
 fn play(
     core: &mut [u64],
+    pairs: &[[u64; 4]; 7],
     queue: &mut [u64],
     counts: &mut [u32; 16],
     threads: &mut [u32; 16],
@@ -55,7 +58,7 @@ fn play(
     taken: u32,
     until: u64,
 ) -> Ran
-    requires { ⌜ Ready (unnamed (now core) (now queue) rules ring taken held (now counts) (now threads)) × Plays until (unnamed (now core) (now queue) rules ring taken held (now counts) (now threads)) ⌝ }
+    requires { ⌜ Ready (unnamed (now core) (now queue) rules ring taken held (now counts) (now threads)) × Plays until (unnamed (now core) (now queue) rules ring taken held (now counts) (now threads)) × (now pairs ≡ fieldPairs) ⌝ }
     ensures { λ r. ⌜ given (told (r .answer)) (r .writes) (r .steps) (unnamed (now (core .exit)) (now (queue .exit)) rules (r .ring) (r .taken) held (now (counts .exit)) (now (threads .exit)))
         ≡ givenBy (playsOf (until - taken) (unnamed (now (core .entry)) (now (queue .entry)) rules ring taken held (now (counts .entry)) (now (threads .entry)))) ⌝ }
 {
@@ -69,7 +72,18 @@ fn play(
         if opcode(f.cell) > NOP {
             return ran(Answer::PrivateMemory, writes, head, length, taken, done);
         }
-        let s = step_once(core, queue, counts, threads, rules, head, tail, length, f);
+        let s = step_once(
+            core,
+            pairs,
+            queue,
+            counts,
+            threads,
+            rules,
+            head,
+            tail,
+            length,
+            f,
+        );
         head = s.head;
         tail = s.tail;
         length = s.length;
@@ -116,6 +130,7 @@ fn limit(ceiling: u64, taken: u32, trusted: bool) -> u64
 // The steps up to the ceiling where the record is trusted; else the next step, its refusal asked first.
 fn ask(
     core: &mut [u64],
+    pairs: &[[u64; 4]; 7],
     queue: &mut [u64],
     counts: &mut [u32; 16],
     threads: &mut [u32; 16],
@@ -126,7 +141,7 @@ fn ask(
     ceiling: u64,
     trusted: bool,
 ) -> Ran
-    requires { ⌜ Ready (unnamed (now core) (now queue) rules ring taken held (now counts) (now threads)) × (trusted ≡ true → Scanned ceiling (unnamed (now core) (now queue) rules ring taken held (now counts) (now threads))) ⌝ }
+    requires { ⌜ Ready (unnamed (now core) (now queue) rules ring taken held (now counts) (now threads)) × (trusted ≡ true → Scanned ceiling (unnamed (now core) (now queue) rules ring taken held (now counts) (now threads))) × (now pairs ≡ fieldPairs) ⌝ }
     ensures { λ r. ⌜ given (told (r .answer)) (r .writes) (r .steps) (unnamed (now (core .exit)) (now (queue .exit)) rules (r .ring) (r .taken) held (now (counts .exit)) (now (threads .exit)))
         ≡ givenBy (playsOf (cond trusted ceiling (taken + 1) - taken) (unnamed (now (core .entry)) (now (queue .entry)) rules ring taken held (now (counts .entry)) (now (threads .entry)))) ⌝ }
 {
@@ -147,6 +162,7 @@ fn ask(
     let until = limit(ceiling, taken, trusted);
     play(
         core,
+        pairs,
         queue,
         counts,
         threads,
@@ -213,6 +229,7 @@ pub(crate) fn run_loop(
     ensures { λ r. ⌜ given (told (r .answer)) (r .writes) (r .steps) (unnamed (now (core .exit)) (now (queue .exit)) rules (r .ring) (r .taken) held (now (counts .exit)) (now (threads .exit)))
         ≡ givenBy (playsOf (ceiling - taken) (unnamed (now (core .entry)) (now (queue .entry)) rules ring taken held (now (counts .entry)) (now (threads .entry)))) ⌝ }
 {
+    let pairs = field_pairs();
     let trusted = trusts(
         core,
         queue,
@@ -231,6 +248,7 @@ pub(crate) fn run_loop(
     while (done as u64) < ceiling {
         let s = ask(
             core,
+            &pairs,
             queue,
             counts,
             threads,

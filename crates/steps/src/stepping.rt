@@ -5,6 +5,7 @@ ghost use lib.ListN as lists;
 ghost use lib.ListN.{getD};
 ghost use Rattle.answer.specs.Numbers.{told};
 ghost use Rattle.offset.specs.Offset.{ahead};
+ghost use Rattle.types.specs.Types.{fieldPairs};
 ghost use Rattle.machine.specs.declared.Roster.{Roster};
 ghost use Rattle.machine.specs.Queue.{unpackedEntry};
 ghost use Rattle.machine.specs.Step as spec;
@@ -42,6 +43,7 @@ pub(crate) fn fetch(core: &[u64], queue: &[u64], head: u32) -> Fetched
 // One step.
 pub(crate) fn step_once(
     core: &mut [u64],
+    pairs: &[[u64; 4]; 7],
     queue: &mut [u64],
     counts: &mut [u32; 16],
     threads: &mut [u32; 16],
@@ -52,7 +54,7 @@ pub(crate) fn step_once(
     fetched: Fetched,
 ) -> Stepped
     requires { ⌜ Front (queueOf (now queue) (ringOf head length) (now counts) (now threads)) tail × (fetched .entry ≡ getD (now queue) head 0)
-        × Executable rules (now core) (unpackedEntry (getD (now queue) head 0) .place .0) (fetched .cell) ⌝ }
+        × Executable rules (now core) (unpackedEntry (getD (now queue) head 0) .place .0) (fetched .cell) × (now pairs ≡ fieldPairs) ⌝ }
     ensures { λ r. ⌜ ((steps : ℕ) (names : Roster) → given (told (r .answer)) (r .writes) 1
         (parts (now (core .exit)) (now (queue .exit)) rules (ringOf (r .head) (r .length)) (steps + 1) names (now (counts .exit)) (now (threads .exit)))
         ≡ givenBy (spec.executed (parts (now (core .entry)) (now (queue .entry)) rules (ringOf head length) steps names (now (counts .entry)) (now (threads .entry)))))
@@ -60,6 +62,6 @@ pub(crate) fn step_once(
 {
     let w = fetched.entry;
     let e = unpack(w);
-    let executed = execute(core, rules, e.place, fetched.cell);
+    let executed = execute(core, pairs, rules, e.place, fetched.cell);
     requeue(queue, counts, threads, head, tail, length, w, executed)
 }

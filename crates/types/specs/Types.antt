@@ -1,9 +1,7 @@
 -- The number fields of an instruction, and which of them meet by modifier (01, 'One step').
 -- Believed. Assumes nothing.
 use Prim.Native.Nat.{ℕ}
-use mathlib.Core.List.{List, [], _∷_}
-use lib.ListN.{getD}
-use Rattle.types.specs.declared.Pairs.{Pairs}
+use mathlib.Core.List.{List, [], _∷_, map}
 
 pub data Field : Type 0 where
   A B : Field
@@ -28,17 +26,17 @@ pairs =
     ∷ (pair A A ∷ pair B B ∷ [])
     ∷ []
 
--- in the code the A field is 0, the B field 1
-abbrev pub code : Field → ℕ
-code A = 0
-code B = 1
+-- in the code a field is told by its first bit in a cell's word: B number in bits 0–15, A number 16–31
+abbrev pub firstBit : Field → ℕ
+firstBit A = 16
+firstBit B = 0
 
 -- the first and the last pair of a row: the same one where the row has one
-abbrev pub ends : List Pair → Pairs
-ends [] = record { a1 = 0; b1 = 0; a2 = 0; b2 = 0 }
-ends (p ∷ []) = record { a1 = code (p .from); b1 = code (p .to); a2 = code (p .from); b2 = code (p .to) }
-ends (p ∷ q ∷ ps) = record { a1 = code (p .from); b1 = code (p .to); a2 = code (q .from); b2 = code (q .to) }
+abbrev pub ends : List Pair → List ℕ
+ends [] = []
+ends (p ∷ []) = firstBit (p .from) ∷ firstBit (p .to) ∷ firstBit (p .from) ∷ firstBit (p .to) ∷ []
+ends (p ∷ q ∷ ps) = firstBit (p .from) ∷ firstBit (p .to) ∷ firstBit (q .from) ∷ firstBit (q .to) ∷ []
 
--- a modifier's row; all 0 past the table
-abbrev pub pairsOf : ℕ → Pairs
-pairsOf modifier = ends (getD pairs modifier [])
+-- those of the seven rows
+abbrev pub fieldPairs : List (List ℕ)
+fieldPairs = map ends pairs

@@ -2,15 +2,17 @@
 ghost use mathlib.Core.Path.{_≡_};
 ghost use Rattle.answer.specs.Numbers.{told};
 ghost use Rattle.types.specs.Defaults.{defaultModifiers, defaultIn, defaultOf, toldOf};
-ghost use Rattle.types.specs.Types.{pairsOf};
+ghost use Rattle.types.specs.Types.{fieldPairs};
 use crate::defaults::DEFAULTS;
+use crate::field::A;
+use crate::field::B;
 use crate::mode::POST_INC_INDIRECT_B;
-use crate::modifier::I;
 use crate::modifier::UNNAMED;
 use crate::opcode::STP;
 use answer::Answer;
 
 mod defaults;
+pub mod field;
 pub mod mode;
 pub mod modifier;
 pub mod opcode;
@@ -63,43 +65,20 @@ pub fn default_88_to_94(opcode: u8, a_mode: u8, b_mode: u8) -> Defaulted
     }
 }
 
-// The first and the last pair of fields that meet, the same one where there is one: 0 is the A field, 1 the B field.
-pub struct Pairs {
-    pub a1: u8,
-    pub b1: u8,
-    pub a2: u8,
-    pub b2: u8,
-}
-
-// By modifier: a's field, b's field and target; of the first pair, then of the last.
-const PAIRS: [[u8; 4]; 7] = [
-    [0, 0, 0, 0],
-    [1, 1, 1, 1],
-    [0, 1, 0, 1],
-    [1, 0, 1, 0],
-    [0, 0, 1, 1],
-    [1, 0, 0, 1],
-    [0, 0, 1, 1],
+// By modifier: a's field, and b's field and target, of the first pair; then of the last, the same one where there is one.
+const FIELD_PAIRS: [[u64; 4]; 7] = [
+    [A, A, A, A],
+    [B, B, B, B],
+    [A, B, A, B],
+    [B, A, B, A],
+    [A, A, B, B],
+    [B, A, A, B],
+    [A, A, B, B],
 ];
 
-// The field pairs of a modifier.
-pub fn pairs_of(modifier: u8) -> Pairs
-    ensures { λ r. ⌜ r ≡ pairsOf modifier ⌝ }
+// The field pairs of the seven modifiers, a field by its first bit.
+pub fn field_pairs() -> [[u64; 4]; 7]
+    ensures { λ r. ⌜ r ≡ fieldPairs ⌝ }
 {
-    if modifier > I {
-        return Pairs {
-            a1: 0,
-            b1: 0,
-            a2: 0,
-            b2: 0,
-        };
-    }
-    let i = modifier as usize;
-    let row = PAIRS[i];
-    Pairs {
-        a1: row[0],
-        b1: row[1],
-        a2: row[2],
-        b2: row[3],
-    }
+    FIELD_PAIRS
 }

@@ -1,6 +1,6 @@
 -- A queue with its front entry and its tail, the slot that the next entry goes to, and what an executed instruction does to it.
 -- Inner. Assumes nothing.
-use Prim.Native.Nat.{ℕ, _<_, _≤_}
+use Prim.Native.Nat.{ℕ, _/_, _^_, _<_, _≤_}
 use mathlib.Core.Path.{_≡_}
 use mathlib.Core.List.{List}
 use lib.ListN.{length, getD}
@@ -23,13 +23,14 @@ ringOf head length = record { head = head; length = length }
 abbrev pub tailOf : Machine → ℕ
 tailOf m = ahead (length (m .queue)) (m .header .ring .head) (m .header .ring .length)
 
--- the front entry's name is counted and has a thread number left, and the next entry goes to the tail
+-- the front entry's upper bits are zero, its name is counted and has a thread number left, and the next entry goes to the tail
 pub record Front (m : Machine) (tail : ℕ) : Type 0 where
   pub slots : length (m .queue) ≤ 65535
   pub head : m .header .ring .head < length (m .queue)
   pub some : 0 < m .header .ring .length
   pub limit : m .header .ring .length ≤ length (m .queue)
   pub behind : tail ≡ tailOf m
+  pub upper : getD (m .queue) (m .header .ring .head) 0 / 2 ^ 52 ≡ 0
   pub sixteen : length (m .header .counts) ≡ 16
   pub count : 0 < getD (m .header .counts) (popped m .name) 0
   pub counted : getD (m .header .counts) (popped m .name) 0 ≤ length (m .queue)
@@ -47,6 +48,13 @@ writesOf (Goes p w) = w
 writesOf (Splits p c w) = w
 writesOf (Dat w) = w
 writesOf (DivideByZero w) = w
+
+-- the place at which the process goes on fits an entry
+abbrev pub Near : Executed → Type 0
+Near (Goes p w) = p .0 < 65536
+Near (Splits p c w) = p .0 < 65536
+Near (Dat w) = Unit {0}
+Near (DivideByZero w) = Unit {0}
 
 -- the front entry popped, and the next places pushed
 pub record Requeued (m : Machine) (x : Executed) (r : Stepped) (queue counts threads : List ℕ) : Type 0 where

@@ -12,19 +12,19 @@ use Rattle.word.proofs.Cells.{reduced}
 use Rattle.steps.proofs.Acting.{told, with-jump, with-jump-too, with-core, data-ends, jump-goes, split-goes, nop-goes}
 
 opcode-requires : tie.Need-opcode-requires
-opcode-requires c κs = search needs
+opcode-requires c κs = c .before .pre .2
 
 modifier-requires : tie.Need-modifier-requires
 modifier-requires c κs = search needs
 
 moves-requires : tie.Need-moves-requires
-moves-requires c κs = (rw (c .before .before .modifier .ensures) (c .before .before .before .before .before .pre .0))
+moves-requires c κs = (rw (c .before .before .modifier .ensures) (c .before .before .before .before .before .pre .0), c .before .before .before .before .before .pre .3)
 
 sums-requires : tie.Need-sums-requires
-sums-requires c κs = ((rw (c .before .before .before .modifier .ensures) (c .before .before .before .before .before .before .pre .0)), (past (past zero-le (c .before .before .match .rest .0 .0 .0 .0 .0 .1)) (c .before .before .match .rest .0 .0 .0 .0 .1)), c .before .if1 .taken)
+sums-requires c κs = ((rw (c .before .before .before .modifier .ensures) (c .before .before .before .before .before .before .pre .0)), (past (past zero-le (c .before .before .match .rest .0 .0 .0 .0 .0 .1)) (c .before .before .match .rest .0 .0 .0 .0 .1)), c .before .if1 .taken, c .before .before .before .before .before .before .pre .3)
 
 divides-requires : tie.Need-divides-requires
-divides-requires c κs = ((rw (c .before .before .before .before .modifier .ensures) (c .before .before .before .before .before .before .before .pre .0)), c .before .before .if1 .left, c .before .if2 .taken)
+divides-requires c κs = ((rw (c .before .before .before .before .modifier .ensures) (c .before .before .before .before .before .before .before .pre .0)), c .before .before .if1 .left, c .before .if2 .taken, c .before .before .before .before .before .before .before .pre .3)
 
 jumps-requires : tie.Need-jumps-requires
 jumps-requires c κs =
@@ -36,13 +36,14 @@ jumps-requires c κs =
       start .pre .0 .valid,
       (past (c .before .if2 .left) (match .rest .0 .0 .0 .1)),
       c .if3 .taken,
+      start .pre .3,
     )
 
 skips-requires : tie.Need-skips-requires
-skips-requires c κs = ((rw (c .before .before .before .before .before .before .modifier .ensures) (c .before .before .before .before .before .before .before .before .before .pre .0)), (past (c .before .before .if3 .left) (c .before .before .before .before .before .match .rest .0 .0 .1)), c .before .if4 .taken)
+skips-requires c κs = ((rw (c .before .before .before .before .before .before .modifier .ensures) (c .before .before .before .before .before .before .before .before .before .pre .0)), (past (c .before .before .if3 .left) (c .before .before .before .before .before .match .rest .0 .0 .1)), c .before .if4 .taken, c .before .before .before .before .before .before .before .before .before .pre .3)
 
 decrements-and-jumps-requires : tie.Need-decrements-and-jumps-requires
-decrements-and-jumps-requires c κs = rw (c .before .before .modifier .ensures) (c .before .before .before .before .before .pre .0)
+decrements-and-jumps-requires c κs = (rw (c .before .before .modifier .ensures) (c .before .before .before .before .before .pre .0), c .before .before .before .before .before .pre .3)
 
 add-requires : tie.Need-add-requires
 add-requires c κs = search needs

@@ -4,9 +4,8 @@ use borrow.Author.Needs.{needs}
 use Rattle.steps.proofs.opcode.decrements_and_jumps.Statement.{statement}
 use Rattle.steps.proofs.opcode.decrements_and_jumps.Tie as tie
 use mathlib.Core.Path.{refl}
-use native.Mathlib.Omega.{arith}
 use Rattle.word.proofs.Cells.{reduced}
-use Rattle.steps.proofs.Acting.{below, counted}
+use Rattle.steps.proofs.Acting.{asks-two, counted}
 
 cast-at : tie.Need-cast-at
 cast-at c = search needs
@@ -20,22 +19,26 @@ slice-read-live c = search needs
 meet-requires : tie.Need-meet-requires
 meet-requires c κs = search needs
 
-sub-t21 : tie.Need-sub-t21
-sub-t21 c = search needs
+sub-t22 : tie.Need-sub-t22
+sub-t22 c = search needs
 
 plus-requires : tie.Need-plus-requires
 plus-requires c κs = search needs
 
-sub-t21-2 : tie.Need-sub-t21-2
-sub-t21-2 c = search needs
+sub-t22-2 : tie.Need-sub-t22-2
+sub-t22-2 c = search needs
 
 plus-requires-2 : tie.Need-plus-requires-2
 plus-requires-2 c κs = search needs
 
 store-requires : tie.Need-store-requires
 store-requires c κs =
-    let c8 = c .before .before .before .before .before .before .before .before in
-    let p = c8 .pre in let h = reduced _ _ (p .place) (c .before .plus .ensures) .below in let v = p .valid in omega arith
+    let c1 = c .before in
+    let c4 = c1 .before .before .before in
+    let c8 = c4 .before .before .before .before in
+    let a = c8 .args in
+    let p = c8 .pre .0 in
+    asks-two (a .size) (a .core .now) (a .modifier) (a .pc .0) (a .jump .0) (a .target .0) (a .ra) (a .rb) (a .w) p _ (c4 .meet .ensures) _ _ (reduced _ _ (p .place) (c1 .plus .ensures) .below) (reduced _ _ (p .place) (c .plus2 .ensures) .below)
 
 mul-core : tie.Need-mul-core
 mul-core c = search needs
@@ -43,8 +46,8 @@ mul-core c = search needs
 slice-write-core : tie.Need-slice-write-core
 slice-write-core c = search needs
 
-add-t27 : tie.Need-add-t27
-add-t27 c = search needs
+add-t28 : tie.Need-add-t28
+add-t28 c = search needs
 
 same-length : tie.Need-same-length
 same-length c = search needs
@@ -57,30 +60,31 @@ returns c =
     let c8 = c5 .before .before .before in
     let c12 = c8 .before .before .before .before in
     let a = c12 .args in
-    counted (a .size) (a .core .now) (a .modifier) (a .pc .0) (a .jump .0) (a .target .0) (a .ra) (a .rb) (a .w) (c12 .pre) _ (c8 .meet .ensures) _ _ _
-    (reduced _ _ (c12 .pre .place) (c5 .plus .ensures) .is) (reduced _ _ (c12 .pre .place) (c4 .plus2 .ensures) .is) (c3 .store .ensures) _
+    let p = c12 .pre .0 in
+    counted (a .size) (a .core .now) (a .modifier) (a .pc .0) (a .jump .0) (a .target .0) (a .ra) (a .rb) (a .w) p _ (c8 .meet .ensures) _ _ _ (reduced _ _ (p .place) (c5 .plus .ensures) .is) (reduced _ _ (p .place) (c4 .plus2 .ensures) .is) (c3 .store .ensures) _
     (c .if1 .taken) _ refl
 
 add-requires : tie.Need-add-requires
 add-requires c κs = search needs
 
-add-t21 : tie.Need-add-t21
-add-t21 c = search needs
+add-t22 : tie.Need-add-t22
+add-t22 c = search needs
 
 same-length-2 : tie.Need-same-length-2
 same-length-2 c = search needs
 
 returns-2 : tie.Need-returns-2
 returns-2 c =
-    let c4 = c .before .before .before .before in
+    let c1 = c .before in
+    let c4 = c1 .before .before .before in
     let c5 = c4 .before in
     let c6 = c5 .before in
     let c9 = c6 .before .before .before in
     let c13 = c9 .before .before .before .before in
     let a = c13 .args in
-    counted (a .size) (a .core .now) (a .modifier) (a .pc .0) (a .jump .0) (a .target .0) (a .ra) (a .rb) (a .w) (c13 .pre) _ (c9 .meet .ensures) _ _ _
-    (reduced _ _ (c13 .pre .place) (c6 .plus .ensures) .is) (reduced _ _ (c13 .pre .place) (c5 .plus2 .ensures) .is) (c4 .store .ensures) _
-    (c .before .if1 .left) _ (reduced _ _ (c13 .pre .place) (c .add .ensures) .is)
+    let p = c13 .pre .0 in
+    counted (a .size) (a .core .now) (a .modifier) (a .pc .0) (a .jump .0) (a .target .0) (a .ra) (a .rb) (a .w) p _ (c9 .meet .ensures) _ _ _ (reduced _ _ (p .place) (c6 .plus .ensures) .is) (reduced _ _ (p .place) (c5 .plus2 .ensures) .is) (c4 .store .ensures) _
+    (c1 .if1 .left) _ (reduced _ _ (p .place) (c .add .ensures) .is)
 
 pub decrements-and-jumps-spec : {M : Type 1} → statement M
 decrements-and-jumps-spec =
@@ -90,17 +94,17 @@ decrements-and-jumps-spec =
     mul-live
     slice-read-live
     meet-requires
-    sub-t21
+    sub-t22
     plus-requires
-    sub-t21-2
+    sub-t22-2
     plus-requires-2
     store-requires
     mul-core
     slice-write-core
-    add-t27
+    add-t28
     same-length
     returns
     add-requires
-    add-t21
+    add-t22
     same-length-2
     returns-2)

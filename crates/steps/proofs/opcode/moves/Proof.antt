@@ -3,9 +3,8 @@
 use borrow.Author.Needs.{needs}
 use Rattle.steps.proofs.opcode.moves.Statement.{statement}
 use Rattle.steps.proofs.opcode.moves.Tie as tie
-use native.Mathlib.Omega.{arith}
 use Rattle.word.proofs.Cells.{reduced}
-use Rattle.steps.proofs.Acting.{below, move-whole, move-fields}
+use Rattle.steps.proofs.Acting.{below, asks-two, move-whole, move-fields}
 
 add-requires : tie.Need-add-requires
 add-requires c κs = search needs
@@ -28,19 +27,19 @@ mul-core c = search needs
 slice-write-core : tie.Need-slice-write-core
 slice-write-core c = search needs
 
-add-t24 : tie.Need-add-t24
-add-t24 c = search needs
+add-t25 : tie.Need-add-t25
+add-t25 c = search needs
 
 same-length : tie.Need-same-length
 same-length c = search needs
 
 returns : tie.Need-returns
 returns c =
-    let c4 = c .before .before .before .before in
+    let c1 = c .before in
+    let c4 = c1 .before .before .before in
     let c6 = c4 .before .before in
     let a = c6 .args in
-    move-whole (a .size) (a .core .now) (a .modifier) (a .pc .0) 0 (a .target .0) (a .ra) (a .rb) (a .w) (c6 .pre) (c .before .if1 .taken) _ _
-    (reduced _ _ (c6 .pre .place) (c4 .add .ensures) .is) (c .copy .ensures)
+    move-whole (a .size) (a .core .now) (a .modifier) (a .pc .0) 0 (a .target .0) (a .ra) (a .rb) (a .w) (c6 .pre .0) (c1 .if1 .taken) _ _ (reduced _ _ (c6 .pre .0 .place) (c4 .add .ensures) .is) (c .copy .ensures)
 
 meet-requires : tie.Need-meet-requires
 meet-requires c κs = search needs
@@ -50,8 +49,8 @@ store-requires c κs =
     let c2 = c .before .before in
     let c8 = c2 .before .before .before .before .before .before in
     let a = c8 .args in
-    let h = below (a .size) (a .core .now) (a .modifier) (a .pc .0) 0 (a .target .0) (a .ra) (a .rb) (a .w) (c8 .pre) _ (c2 .meet .ensures) .a1 in let v =
-    c8 .pre .valid in omega arith
+    let b = below (a .size) (a .core .now) (a .modifier) (a .pc .0) 0 (a .target .0) (a .ra) (a .rb) (a .w) (c8 .pre .0) _ (c2 .meet .ensures) in
+    asks-two (a .size) (a .core .now) (a .modifier) (a .pc .0) 0 (a .target .0) (a .ra) (a .rb) (a .w) (c8 .pre .0) _ (c2 .meet .ensures) _ _ (b .a1) (b .a2)
 
 mul-core-2 : tie.Need-mul-core-2
 mul-core-2 c = search needs
@@ -59,8 +58,8 @@ mul-core-2 c = search needs
 slice-write-core-2 : tie.Need-slice-write-core-2
 slice-write-core-2 c = search needs
 
-add-t26 : tie.Need-add-t26
-add-t26 c = search needs
+add-t27 : tie.Need-add-t27
+add-t27 c = search needs
 
 same-length-2 : tie.Need-same-length-2
 same-length-2 c = search needs
@@ -72,8 +71,7 @@ returns-2 c =
     let c7 = c4 .before .before .before in
     let c9 = c7 .before .before in
     let a = c9 .args in
-    move-fields (a .size) (a .core .now) (a .modifier) (a .pc .0) 0 (a .target .0) (a .ra) (a .rb) (a .w) (c9 .pre) _ (c3 .meet .ensures) (c4 .if1 .left)
-    _ _ (reduced _ _ (c9 .pre .place) (c7 .add .ensures) .is) (c .store .ensures)
+    move-fields (a .size) (a .core .now) (a .modifier) (a .pc .0) 0 (a .target .0) (a .ra) (a .rb) (a .w) (c9 .pre .0) _ (c3 .meet .ensures) (c4 .if1 .left) _ _ (reduced _ _ (c9 .pre .0 .place) (c7 .add .ensures) .is) (c .store .ensures)
 
 pub moves-spec : {M : Type 1} → statement M
 moves-spec =
@@ -86,13 +84,13 @@ moves-spec =
     copy-requires
     mul-core
     slice-write-core
-    add-t24
+    add-t25
     same-length
     returns
     meet-requires
     store-requires
     mul-core-2
     slice-write-core-2
-    add-t26
+    add-t27
     same-length-2
     returns-2)

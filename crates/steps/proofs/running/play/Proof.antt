@@ -16,14 +16,14 @@ use Rattle.steps.specs.inner.Queueing.{ringOf}
 use Rattle.steps.proofs.Answers.{slots-le}
 use Rattle.steps.proofs.Trust.{plays-first}
 use Rattle.steps.proofs.Loop.{begun, over, giving}
-use Rattle.steps.proofs.Rounds.{Round, can-count, can-fetch, private-stops, can-step, writes-few, since-start, step-stops, goes-round}
+use Rattle.steps.proofs.Rounds.{Round, can-count, can-fetch, cell-small, private-stops, can-step, writes-few, since-start, step-stops, goes-round}
 
 abbrev Inv-loop : tie.InvT-loop
-Inv-loop core₀ queue₀ counts₀ threads₀ rules held taken until head₀ length₀ tail₀ done₀ writes₀ core queue counts threads head length tail done writes = Round until (unnamed core₀ queue₀ rules (ringOf head₀ length₀) taken held counts₀ threads₀) (unnamed core queue rules (ringOf head length) done held counts threads) writes tail
+Inv-loop core₀ pairs queue₀ counts₀ threads₀ rules held taken until head₀ length₀ tail₀ done₀ writes₀ core queue counts threads head length tail done writes = Round until (unnamed core₀ queue₀ rules (ringOf head₀ length₀) taken held counts₀ threads₀) (unnamed core queue rules (ringOf head length) done held counts threads) writes tail
     × (lists.length core ≡ lists.length core₀) × (lists.length queue ≡ lists.length queue₀)
 
 abbrev μ-loop : tie.MeasureT-loop
-μ-loop core₀ queue₀ counts₀ threads₀ rules held taken until head₀ length₀ tail₀ done₀ writes₀ core queue counts threads head length tail done writes = until - done
+μ-loop core₀ pairs queue₀ counts₀ threads₀ rules held taken until head₀ length₀ tail₀ done₀ writes₀ core queue counts threads head length tail done writes = until - done
 
 cast-slot-ahead : tie.Need-cast-slot-ahead Inv-loop μ-loop
 cast-slot-ahead c = let l = slots-le _ (c .before .before .pre .0) in record { fits = omega arith }
@@ -50,7 +50,10 @@ fetch-requires : tie.Need-fetch-requires Inv-loop μ-loop
 fetch-requires c κs = can-fetch (c .before .before .before .loop .inv .0) (c .before .before .loop-test .taken)
 
 opcode-requires : tie.Need-opcode-requires Inv-loop μ-loop
-opcode-requires c κs = search needs
+opcode-requires c κs =
+    let c3 = c .before .before .before in
+    let c4 = c3 .before in
+    rw (c .fetch .ensures .1) (cell-small (c4 .loop .inv .0) (c3 .loop-test .taken))
 
 ran-requires : tie.Need-ran-requires Inv-loop μ-loop
 ran-requires c κs =
@@ -81,7 +84,7 @@ step-once-requires c κs =
     let c6 = c5 .before in
     let c9 = c6 .before .before .before in
     let c10 = c9 .before in
-    let s = can-step (c10 .loop .inv .0) (c9 .loop-test .taken) (c6 .fetch .ensures .1) (c5 .opcode .ensures) (c4 .if1 .left) in (s .0, c6 .fetch .ensures .0, s .1)
+    let s = can-step (c10 .loop .inv .0) (c9 .loop-test .taken) (c6 .fetch .ensures .1) (c5 .opcode .ensures) (c4 .if1 .left) in (s .0, c6 .fetch .ensures .0, s .1, c10 .before .before .before .before .pre .2)
 
 add-done : tie.Need-add-done Inv-loop μ-loop
 add-done c =
@@ -145,7 +148,7 @@ returns-2 c =
     let a = c23 .args in
     let l = c19 .loop in
     let s = c8 .step-once in
-    giving (λ (r : Ring) (t : ℕ). unnamed (s .last .0) (s .last .1 .0) (a .rules) r t (a .held) (s .last .1 .1 .0) (s .last .1 .1 .1 .0)) (a .taken) (c .ran2 .ensures)
+    giving (λ (r : Ring) (t : ℕ). unnamed (s .last .0) (s .last .1 .1 .0) (a .rules) r t (a .held) (s .last .1 .1 .1 .0) (s .last .1 .1 .1 .1 .0)) (a .taken) (c .ran2 .ensures)
     (step-stops (l .inv .0) (c18 .loop-test .taken) (c15 .fetch .ensures .1) (c14 .opcode .ensures) (c13 .if1 .left) (s .ensures .0 (l .done) (namesOf (a .held) [] []))
     (refuted (c .before .before .is-done .ensures) (c .before .if2 .taken)))
 

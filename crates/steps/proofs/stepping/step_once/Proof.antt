@@ -10,11 +10,16 @@ use Rattle.machine.specs.Pointers.{siteAt}
 use Rattle.machine.specs.Queue.{unpackedEntry}
 use Rattle.machine.specs.Instruction.{effectAt, coreAt, writtenAt}
 use Rattle.steps.specs.inner.Instruction.{Executable, answered}
+use Rattle.steps.proofs.Executing.{near}
 use Rattle.steps.proofs.Answers.{executes}
 
 -- the front entry, unpacked
 entry-is : (c : tie.Start) {e : Entry} → e ≡ unpackedEntry (c .args .fetched .entry) → e ≡ unpackedEntry (getD (c .args .queue .now) (c .args .head) 0)
 entry-is c q = q ∙ ap unpackedEntry (c .pre .1)
+
+-- what its instruction asks
+executable : (c : tie.Start) {e : Entry} → e ≡ unpackedEntry (c .args .fetched .entry) → Executable (c .args .rules) (c .args .core .now) (e .place .0) (c .args .fetched .cell)
+executable c q = subst (λ (e : Entry). Executable (c .args .rules) (c .args .core .now) (e .place .0) (c .args .fetched .cell)) (sym (entry-is c q)) (c .pre .2)
 
 unpack-requires : tie.Need-unpack-requires
 unpack-requires c κs = search needs
@@ -22,10 +27,14 @@ unpack-requires c κs = search needs
 execute-requires : tie.Need-execute-requires
 execute-requires c κs =
     let c4 = c .before .before .before .before in
-    subst (λ (e : Entry). Executable (c4 .args .rules) (c4 .args .core .now) (e .place .0) (c4 .args .fetched .cell)) (sym (entry-is c4 (c .before .unpack .ensures))) (c4 .pre .2)
+    (executable c4 (c .before .unpack .ensures), c4 .pre .3)
 
 requeue-requires : tie.Need-requeue-requires
-requeue-requires c κs = search needs
+requeue-requires c κs =
+    let c5 = c .before .before .before .before .before in
+    let c7 = c5 .before .before in
+    let c10 = c7 .before .before .before in
+    (c10 .pre .0, c10 .pre .1, near _ _ _ _ (executable c10 (c7 .unpack .ensures)) _ (c5 .execute .ensures .0))
 
 same-length : tie.Need-same-length
 same-length c = search needs
