@@ -19,13 +19,12 @@ use Rattle.cell.proofs.Words.{unpack-pack, word-range}
 use Rattle.machine.specs.declared.Rules.{Rules}
 use Rattle.machine.specs.Pointers as machine
 use Rattle.machine.specs.Pointers.{Reach, here, there, through, Shift, keeps, lowers, raises, reaches, shifts, fieldOf, less, more, used, pointerOf, changed, before, after, shifted, siteAt, operand}
-use Rattle.word.specs.Words.{fieldBy}
-use Rattle.address.specs.Rounding.{decremented, incremented, aimed}
+use Rattle.address.specs.Rounding.{decremented, incremented, fieldThrough, aimed}
 use Rattle.address.specs.inner.Operands.{soundSeen, Ready}
 use Rattle.word.proofs.Cells.{ahead-below, whole, number-below, with-sound}
 
 -- the modes by range
-pub goes-through : (mode : ℕ) → 2 ≤ mode → mode < 8 → getD reaches mode here ≡ through (fieldBy (mode % 2))
+pub goes-through : (mode : ℕ) → 2 ≤ mode → mode < 8 → getD reaches mode here ≡ through (fieldThrough mode)
 goes-through mode l h = span mode 2 6 l h (λ e. rw e, (λ e. rw e, (λ e. rw e, (λ e. rw e, (λ e. rw e, (λ e. rw e, tt))))))
 
 pub shift-keeps : (mode : ℕ) → mode < 4 → getD shifts mode keeps ≡ keeps
@@ -205,13 +204,13 @@ module _ (rules : Rules) (core : List ℕ) (pc mode n : ℕ) where
         there-is : its .read ≡ location
         there-is = at-location e ∙ sym is
 
-    module _ (two : 2 ≤ mode) (eight : mode < 8) (seen to pointer : ℕ) (es : seen ≡ number (fieldBy (mode % 2)) (unpacked (getD core location 0)))
+    module _ (two : 2 ≤ mode) (eight : mode < 8) (seen to pointer : ℕ) (es : seen ≡ number (fieldThrough mode) (unpacked (getD core location 0)))
         (et : to ≡ aimed (getD shifts mode keeps) size seen) (ep : pointer ≡ ahead size location to) where
       seen-is : seen ≡ found
       seen-is = es ∙ rw (is, goes-through mode two eight)
 
       seen-below : seen < size
-      seen-below = rw es (number-below (fieldBy (mode % 2)) size (getD core location 0) h)
+      seen-below = rw es (number-below (fieldThrough mode) size (getD core location 0) h)
 
       uses : to ≡ used (getD shifts mode keeps) size seen
       uses = et ∙ is-used (getD shifts mode keeps) size seen seen-below
@@ -227,7 +226,7 @@ module _ (rules : Rules) (core : List ℕ) (pc mode n : ℕ) where
             record { reads = points; copies = plainly points s (register-keeps t); leaves = core-keeps t }
 
         module _ (l : List ℕ) (word : ℕ) (el : l ≡ set core location word) where
-          pub lower : size ≤ 46341 → 4 ≤ mode → mode < 6 → word ≡ packed (withNumber (fieldBy (mode % 2)) to (unpacked (getD core location 0)))
+          pub lower : size ≤ 46341 → 4 ≤ mode → mode < 6 → word ≡ packed (withNumber (fieldThrough mode) to (unpacked (getD core location 0)))
               → (register : ℕ) → register ≡ getD (set core location word) pointer 0
               → Points pointer register l
           lower v p q ew register er =
@@ -253,9 +252,9 @@ module _ (rules : Rules) (core : List ℕ) (pc mode n : ℕ) where
               sound-there =
                   rw (el, ew)
                   (on-set (λ (w : ℕ). soundWord size w ≡ true) core location pointer _ 0
-                  (with-sound (fieldBy (mode % 2)) size (getD core location 0) to v h (rw to-is (ahead-below _ _ seen-below))) s)
+                  (with-sound (fieldThrough mode) size (getD core location 0) to v h (rw to-is (ahead-below _ _ seen-below))) s)
 
-          pub raise : 6 ≤ mode → (up : ℕ) → up ≡ incremented size seen → word ≡ packed (withNumber (fieldBy (mode % 2)) up (unpacked (getD core location 0)))
+          pub raise : 6 ≤ mode → (up : ℕ) → up ≡ incremented size seen → word ≡ packed (withNumber (fieldThrough mode) up (unpacked (getD core location 0)))
               → (register : ℕ) → register ≡ getD core pointer 0
               → Points pointer register l
           raise p up eu ew register er =

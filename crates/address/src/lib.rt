@@ -2,8 +2,11 @@
 ghost use mathlib.Core.Path.{_≡_};
 ghost use lib.ListN.{getD};
 ghost use Rattle.machine.specs.Pointers as spec;
-ghost use Rattle.address.specs.Rounding.{decremented, incremented, aimed};
+ghost use Rattle.types.specs.Types.{firstBit};
+ghost use Rattle.address.specs.Rounding.{decremented, incremented, fieldThrough, aimed};
 use offset::Relative;
+use types::field::A;
+use types::field::B;
 use types::mode::POST_INC_INDIRECT_A;
 use types::mode::PRE_DEC_INDIRECT_A;
 
@@ -32,6 +35,16 @@ pub fn increment(n: Relative, size: u32) -> Relative
         return Relative(next);
     }
     Relative(0)
+}
+
+// The first bit of the field that an indirect mode goes through.
+pub fn field_of(mode: u64) -> u64
+    ensures { λ r. ⌜ r ≡ firstBit (fieldThrough mode) ⌝ }
+{
+    if mode % 2 == 0 {
+        return A;
+    }
+    B
 }
 
 // The number that the pointer is made of: the one found, minus 1 for `{` and `<`.

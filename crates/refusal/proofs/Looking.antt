@@ -13,9 +13,8 @@ use Rattle.types.specs.Types.{Field}
 use Rattle.cell.specs.Cells.{packed, unpacked, soundWord, number, withNumber, store}
 use Rattle.machine.specs.declared.Rules.{Rules}
 use Rattle.machine.specs.Pointers.{Reach, here, there, through, Shift, keeps, lowers, raises, reaches, shifts, fieldOf, used, pointerOf, before, after, siteAt, operand}
-use Rattle.word.specs.Words.{fieldBy}
 use Rattle.word.proofs.Cells.{ahead-below, number-below, with-sound}
-use Rattle.address.specs.Rounding.{decremented, incremented, aimed}
+use Rattle.address.specs.Rounding.{decremented, incremented, fieldThrough, aimed}
 use Rattle.address.specs.inner.Operands.{soundSeen, Ready}
 use Rattle.address.proofs.Pointing.{goes-through, shift-keeps, shift-lowers, shift-raises, is-less, is-more, is-used, still-sound, sound-is}
 use Rattle.refusal.specs.inner.Looking.{soundPointed, soundBoth, leftBy, left}
@@ -30,12 +29,12 @@ module _ (size : ℕ) (core : List ℕ) (location w mode : ℕ) where
     unfolding soundBoth
     no-further l = span mode 0 2 zero-le l (λ e. rw e (sym (simp h)), (λ e. rw e (sym (simp h)), tt))
 
-    pub further : 2 ≤ mode → mode < 8 → {found to pointer : ℕ} {r : Bool} → found ≡ number (fieldBy (mode % 2)) (unpacked w)
+    pub further : 2 ≤ mode → mode < 8 → {found to pointer : ℕ} {r : Bool} → found ≡ number (fieldThrough mode) (unpacked w)
         → to ≡ aimed (getD shifts mode keeps) size found → pointer ≡ ahead size location to → r ≡ soundWord size (getD core pointer 0)
         → r ≡ soundBoth size core location w mode
     unfolding soundBoth
     further two eight {found} ef et ep er =
-        let b : found < size = rw ef (number-below (fieldBy (mode % 2)) size w h) in
+        let b : found < size = rw ef (number-below (fieldThrough mode) size w h) in
         er ∙ rw (ep, et ∙ is-used (getD shifts mode keeps) size found b, ef, goes-through mode two eight) (sym (simp h))
 
 module _ (size w mode : ℕ) where
@@ -43,17 +42,17 @@ module _ (size w mode : ℕ) where
   unfolding left
   left-alone l = rw (shift-keeps mode l)
 
-  module _ (h : soundWord size w ≡ true) {found : ℕ} (ef : found ≡ number (fieldBy (mode % 2)) (unpacked w)) where
+  module _ (h : soundWord size w ≡ true) {found : ℕ} (ef : found ≡ number (fieldThrough mode) (unpacked w)) where
     below : found < size
-    below = rw ef (number-below (fieldBy (mode % 2)) size w h)
+    below = rw ef (number-below (fieldThrough mode) size w h)
 
-    pub left-lower : 4 ≤ mode → mode < 6 → {to r : ℕ} → to ≡ decremented size found → r ≡ packed (withNumber (fieldBy (mode % 2)) to (unpacked w))
+    pub left-lower : 4 ≤ mode → mode < 6 → {to r : ℕ} → to ≡ decremented size found → r ≡ packed (withNumber (fieldThrough mode) to (unpacked w))
         → r ≡ left size w mode
     unfolding left
     left-lower p q et er =
         er ∙ rw (et ∙ is-less size found below, ef, shift-lowers mode p q, goes-through mode (omega arith) (omega arith))
 
-    pub left-higher : 6 ≤ mode → mode < 8 → {to r : ℕ} → to ≡ incremented size found → r ≡ packed (withNumber (fieldBy (mode % 2)) to (unpacked w))
+    pub left-higher : 6 ≤ mode → mode < 8 → {to r : ℕ} → to ≡ incremented size found → r ≡ packed (withNumber (fieldThrough mode) to (unpacked w))
         → r ≡ left size w mode
     unfolding left
     left-higher p q et er =

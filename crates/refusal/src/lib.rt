@@ -14,6 +14,7 @@ ghost use Rattle.refusal.specs.inner.Looking.{soundBoth, left, soundSeen
 ghost use Rattle.refusal.specs.Checks.{refused};
 use address::aim;
 use address::decrement;
+use address::field_of;
 use address::increment;
 use answer::Answer;
 use cell::sound;
@@ -26,6 +27,8 @@ use machine::limits::MOST_ENTRIES;
 use offset::Absolute;
 use offset::add;
 use soundness::sound_front;
+use types::field::A;
+use types::field::B;
 use types::mode::INDIRECT_A;
 use types::mode::POST_INC_INDIRECT_A;
 use types::mode::PRE_DEC_INDIRECT_A;
@@ -47,7 +50,7 @@ fn look(core: &[u64], size: u32, location: Absolute, word: u64, mode: u64) -> bo
     if mode < INDIRECT_A {
         return true;
     }
-    let field = (mode % 2) as u8;
+    let field = field_of(mode);
     let to = aim(size, mode, number(word, field));
     let pointer = add(location, to, size);
     let i = pointer.0 as usize;
@@ -63,7 +66,7 @@ fn changed(word: u64, size: u32, mode: u64) -> u64
     if mode < PRE_DEC_INDIRECT_A {
         return word;
     }
-    let field = (mode % 2) as u8;
+    let field = field_of(mode);
     let found = number(word, field);
     if mode < POST_INC_INDIRECT_A {
         return with_number(word, field, decrement(found, size));
@@ -89,7 +92,7 @@ fn readable(core: &[u64], rules: Rules, pc: Absolute, here: u64) -> bool
 {
     let size = rules.size;
     let mode = a_mode(here);
-    let location = add(pc, number(here, 0), size);
+    let location = add(pc, number(here, A), size);
     let at = location.0 as usize;
     let old = core[at];
     if !look(core, size, location, old, mode) {
@@ -97,7 +100,7 @@ fn readable(core: &[u64], rules: Rules, pc: Absolute, here: u64) -> bool
     }
     let word = changed(old, size, mode);
     let again = word_at(pc, here, location, word);
-    let second = add(pc, number(again, 1), size);
+    let second = add(pc, number(again, B), size);
     let i = second.0 as usize;
     let there = core[i];
     let found = word_at(second, there, location, word);

@@ -22,12 +22,13 @@ use Rattle.machine.specs.Execution as machine
 use Rattle.machine.specs.Execution.{Scene, Effect, ends, goes, divisor, mets, some?, computes, stored, put, isNone, effectOf}
 use Rattle.machine.specs.Pointers.{less}
 use Rattle.machine.specs.Instruction.{storeTo}
+use Rattle.word.specs.Words.{fieldBy}
 use Rattle.steps.specs.declared.opcode.Executed.{Executed}
 use Rattle.steps.specs.declared.opcode.Executed.the-variants.{Goes, Splits, Dat, DivideByZero}
 use Rattle.steps.specs.declared.modifier.Met.{Met}
 use Rattle.steps.specs.inner.Instruction.{answered}
 use Rattle.steps.specs.inner.Instruction.{absolute}
-use Rattle.steps.specs.inner.Acts.{copyOf, FirstBit, fieldAt, metOf, firstOf, lastOf, Below, valueBy, sceneOf, storeWrites, Answers, Does, SoundScene}
+use Rattle.steps.specs.inner.Acts.{copyOf, FirstBit, metOf, firstOf, lastOf, Below, valueBy, sceneOf, storeWrites, Answers, Does, SoundScene}
 use Rattle.word.proofs.Cells.{whole}
 use Rattle.steps.proofs.FieldBits.{packed-small}
 use Rattle.steps.proofs.FieldPairs.{Shape, shape, one-pair, put-twice, every-two, some-two, stored-two, met-below, met-bits}
@@ -109,7 +110,7 @@ module _ (size : ℕ) (core : List ℕ) (k pc jump target ra rb w : ℕ) where
 
       computed : (op : ℕ) (f : ℕ → ℕ → ℕ → Option ℕ) → effectOf op scene ≡ computes scene f (scene .target)
           → (v1 v2 next word : ℕ) → some v1 ≡ f size (p .a1 .0) (p .b1 .0) → some v2 ≡ f size (p .a2 .0) (p .b2 .0) → next ≡ ahead size pc 1
-          → word ≡ packed (withNumber (fieldAt (p .t2)) v2 (withNumber (fieldAt (p .t1)) v1 (unpacked (getD core target 0))))
+          → word ≡ packed (withNumber (fieldBy (p .t2)) v2 (withNumber (fieldBy (p .t1)) v1 (unpacked (getD core target 0))))
           → Does op scene core target w (Goes (absolute next) (w + 1)) (set core target word)
       computed op f ee v1 v2 next word e1 e2 en ew = does op _ (ee ∙ known) (rw en) (rw ew)
         where
@@ -119,26 +120,26 @@ module _ (size : ℕ) (core : List ℕ) (k pc jump target ra rb w : ℕ) where
           no-zero : some? (λ x. isNone (f size (x .a) (x .b))) scene ≡ false
           no-zero = some-two scene p shaped (λ x. isNone (f size (x .a) (x .b))) ∙ rw (← e1, ← e2)
 
-          filled : stored (f size) (mets scene) (scene .live) ≡ withNumber (fieldAt (p .t2)) v2 (withNumber (fieldAt (p .t1)) v1 (unpacked (getD core target 0)))
+          filled : stored (f size) (mets scene) (scene .live) ≡ withNumber (fieldBy (p .t2)) v2 (withNumber (fieldBy (p .t1)) v1 (unpacked (getD core target 0)))
           filled = stored-two scene p shaped (f size) (scene .live) ∙ rw (← e1, ← e2)
 
           known : computes scene f (scene .target)
-              ≡ record { cell = some (withNumber (fieldAt (p .t2)) v2 (withNumber (fieldAt (p .t1)) v1 (unpacked (getD core target 0)))); next = goes (ahead size pc 1) }
+              ≡ record { cell = some (withNumber (fieldBy (p .t2)) v2 (withNumber (fieldBy (p .t1)) v1 (unpacked (getD core target 0)))); next = goes (ahead size pc 1) }
           known = λ i. record { cell = cond (stores i) (some (filled i)) none; next = cond (no-zero i) (ends divisor) (goes (ahead size pc 1)) }
 
       pub move-fields : (k ≡ 6 → ⊥) → (next word : ℕ) → next ≡ ahead size pc 1
-          → word ≡ packed (withNumber (fieldAt (p .t2)) (p .a2 .0) (withNumber (fieldAt (p .t1)) (p .a1 .0) (unpacked (getD core target 0))))
+          → word ≡ packed (withNumber (fieldBy (p .t2)) (p .a2 .0) (withNumber (fieldBy (p .t1)) (p .a1 .0) (unpacked (getD core target 0))))
           → Does 1 scene core target w (Goes (absolute next) (w + 1)) (set core target word)
       move-fields n next word en ew = computed 1 machine.moved (moved-fields scene n) (p .a1 .0) (p .a2 .0) next word refl refl en ew
 
       pub summed : (op : ℕ) → 2 ≤ op → op < 5 → (v1 v2 next word : ℕ) → some v1 ≡ valueBy op size (p .a1 .0) (p .b1 .0)
           → some v2 ≡ valueBy op size (p .a2 .0) (p .b2 .0) → next ≡ ahead size pc 1
-          → word ≡ packed (withNumber (fieldAt (p .t2)) v2 (withNumber (fieldAt (p .t1)) v1 (unpacked (getD core target 0))))
+          → word ≡ packed (withNumber (fieldBy (p .t2)) v2 (withNumber (fieldBy (p .t1)) v1 (unpacked (getD core target 0))))
           → Does op scene core target w (Goes (absolute next) (w + 1)) (set core target word)
       summed op l u = computed op (valueBy op) (computes-at op scene l (omega arith))
 
       pub summed-one : k < 4 → (op : ℕ) → 2 ≤ op → op < 5 → (v next word : ℕ) → some v ≡ valueBy op size (p .a1 .0) (p .b1 .0) → next ≡ ahead size pc 1
-          → word ≡ packed (withNumber (fieldAt (p .t1)) v (unpacked (getD core target 0)))
+          → word ≡ packed (withNumber (fieldBy (p .t1)) v (unpacked (getD core target 0)))
           → Does op scene core target w (Goes (absolute next) (w + 1)) (set core target word)
       summed-one h op l u v next word e en ew =
           summed op l u v v next word e (e ∙ ap (λ (x : machine.Met). valueBy op size (x .a) (x .b)) (sym one)) en (ew ∙ ap packed twice)
@@ -146,18 +147,18 @@ module _ (size : ℕ) (core : List ℕ) (k pc jump target ra rb w : ℕ) where
           one : lastOf p ≡ firstOf p
           one = one-pair k ra rb p ep h
 
-          twice : withNumber (fieldAt (p .t1)) v (unpacked (getD core target 0))
-              ≡ withNumber (fieldAt (p .t2)) v (withNumber (fieldAt (p .t1)) v (unpacked (getD core target 0)))
+          twice : withNumber (fieldBy (p .t1)) v (unpacked (getD core target 0))
+              ≡ withNumber (fieldBy (p .t2)) v (withNumber (fieldBy (p .t1)) v (unpacked (getD core target 0)))
           twice =
-              put-twice (some v) (fieldAt (p .t1)) (unpacked (getD core target 0))
-              ∙ ap (λ (x : machine.Met). withNumber (x .target) v (withNumber (fieldAt (p .t1)) v (unpacked (getD core target 0)))) (sym one)
+              put-twice (some v) (fieldBy (p .t1)) (unpacked (getD core target 0))
+              ∙ ap (λ (x : machine.Met). withNumber (x .target) v (withNumber (fieldBy (p .t1)) v (unpacked (getD core target 0)))) (sym one)
 
       module _ (op : ℕ) (l : 5 ≤ op) (u : op < 7) where
         -- DIV and MOD by which b is zero
         divided : (all one : Bool) → (eqb (p .b1 .0) 0 && eqb (p .b2 .0) 0) ≡ all → (eqb (p .b1 .0) 0 || eqb (p .b2 .0) 0) ≡ one
             → effectOf op scene
             ≡ record {
-              cell = cond (not all) (some (put (valueBy op size (p .a2 .0) (p .b2 .0)) (fieldAt (p .t2)) (put (valueBy op size (p .a1 .0) (p .b1 .0)) (fieldAt (p .t1)) (unpacked (getD core target 0))))) none;
+              cell = cond (not all) (some (put (valueBy op size (p .a2 .0) (p .b2 .0)) (fieldBy (p .t2)) (put (valueBy op size (p .a1 .0) (p .b1 .0)) (fieldBy (p .t1)) (unpacked (getD core target 0))))) none;
               next = cond one (ends divisor) (goes (ahead size pc 1));
             }
         divided all one ea eo = computes-at op scene (omega arith) u ∙ known
@@ -178,7 +179,7 @@ module _ (size : ℕ) (core : List ℕ) (k pc jump target ra rb w : ℕ) where
 
             known : computes scene (valueBy op) (scene .live)
                 ≡ record {
-                  cell = cond (not all) (some (put (valueBy op size (p .a2 .0) (p .b2 .0)) (fieldAt (p .t2)) (put (valueBy op size (p .a1 .0) (p .b1 .0)) (fieldAt (p .t1)) (unpacked (getD core target 0))))) none;
+                  cell = cond (not all) (some (put (valueBy op size (p .a2 .0) (p .b2 .0)) (fieldBy (p .t2)) (put (valueBy op size (p .a1 .0) (p .b1 .0)) (fieldBy (p .t1)) (unpacked (getD core target 0))))) none;
                   next = cond one (ends divisor) (goes (ahead size pc 1));
                 }
             known =
@@ -186,24 +187,24 @@ module _ (size : ℕ) (core : List ℕ) (k pc jump target ra rb w : ℕ) where
 
         -- the word that the code stores
         module _ (half : ℕ)
-            (eh : half ≡ cond (eqb (p .b1 .0) 0) (getD core target 0) (packed (withNumber (fieldAt (p .t1)) (cond (eqb op 5) (p .a1 .0 / p .b1 .0) (p .a1 .0 % p .b1 .0)) (unpacked (getD core target 0))))) where
-          half-packed : half ≡ packed (put (valueBy op size (p .a1 .0) (p .b1 .0)) (fieldAt (p .t1)) (unpacked (getD core target 0)))
-          half-packed = part-is op size (p .a1 .0) (p .b1 .0) (fieldAt (p .t1)) (getD core target 0) half l u (below .a1) (whole size (getD core target 0) (ok .live)) eh
+            (eh : half ≡ cond (eqb (p .b1 .0) 0) (getD core target 0) (packed (withNumber (fieldBy (p .t1)) (cond (eqb op 5) (p .a1 .0 / p .b1 .0) (p .a1 .0 % p .b1 .0)) (unpacked (getD core target 0))))) where
+          half-packed : half ≡ packed (put (valueBy op size (p .a1 .0) (p .b1 .0)) (fieldBy (p .t1)) (unpacked (getD core target 0)))
+          half-packed = part-is op size (p .a1 .0) (p .b1 .0) (fieldBy (p .t1)) (getD core target 0) half l u (below .a1) (whole size (getD core target 0) (ok .live)) eh
 
-          half-is : unpacked half ≡ put (valueBy op size (p .a1 .0) (p .b1 .0)) (fieldAt (p .t1)) (unpacked (getD core target 0))
+          half-is : unpacked half ≡ put (valueBy op size (p .a1 .0) (p .b1 .0)) (fieldBy (p .t1)) (unpacked (getD core target 0))
           half-is =
               ap unpacked half-packed
-              ∙ unpack-pack _ (put-range op size (p .a1 .0) (p .b1 .0) (fieldAt (p .t1)) (unpacked (getD core target 0)) l u (below .a1) (ok .valid) (word-range (getD core target 0)))
+              ∙ unpack-pack _ (put-range op size (p .a1 .0) (p .b1 .0) (fieldBy (p .t1)) (unpacked (getD core target 0)) l u (below .a1) (ok .valid) (word-range (getD core target 0)))
 
           pub asks-again : (half < 2 ^ 46) × FirstBit (p .t2) × (p .a2 .0 < 65536)
           asks-again = let h = below .a2 in let v = ok .valid in (rw half-packed (packed-small _), met-bits k ra rb p (ok .row) ep .1, omega arith)
 
           parts : (word : ℕ)
-              → word ≡ cond (eqb (p .b2 .0) 0) half (packed (withNumber (fieldAt (p .t2)) (cond (eqb op 5) (p .a2 .0 / p .b2 .0) (p .a2 .0 % p .b2 .0)) (unpacked half)))
-              → word ≡ packed (put (valueBy op size (p .a2 .0) (p .b2 .0)) (fieldAt (p .t2)) (put (valueBy op size (p .a1 .0) (p .b1 .0)) (fieldAt (p .t1)) (unpacked (getD core target 0))))
+              → word ≡ cond (eqb (p .b2 .0) 0) half (packed (withNumber (fieldBy (p .t2)) (cond (eqb op 5) (p .a2 .0 / p .b2 .0) (p .a2 .0 % p .b2 .0)) (unpacked half)))
+              → word ≡ packed (put (valueBy op size (p .a2 .0) (p .b2 .0)) (fieldBy (p .t2)) (put (valueBy op size (p .a1 .0) (p .b1 .0)) (fieldBy (p .t1)) (unpacked (getD core target 0))))
           parts word ew =
-              part-is op size (p .a2 .0) (p .b2 .0) (fieldAt (p .t2)) half word l u (below .a2) (ap packed half-is ∙ sym half-packed) ew
-              ∙ ap (λ (c : Cell). packed (put (valueBy op size (p .a2 .0) (p .b2 .0)) (fieldAt (p .t2)) c)) half-is
+              part-is op size (p .a2 .0) (p .b2 .0) (fieldBy (p .t2)) half word l u (below .a2) (ap packed half-is ∙ sym half-packed) ew
+              ∙ ap (λ (c : Cell). packed (put (valueBy op size (p .a2 .0) (p .b2 .0)) (fieldBy (p .t2)) c)) half-is
 
           -- of one pair, the half is the word
           pub divided-one : k < 4 → (eqb (p .b1 .0) 0 && eqb (p .b2 .0) 0) ≡ false → (next : ℕ) → next ≡ ahead size pc 1
@@ -219,11 +220,11 @@ module _ (size : ℕ) (core : List ℕ) (k pc jump target ra rb w : ℕ) where
               no-zero : (eqb (p .b1 .0) 0 || eqb (p .b2 .0) 0) ≡ false
               no-zero = rw same-b (twice-or (eqb (p .b1 .0) 0) (rw same-b at some-left))
 
-              word-is : half ≡ packed (put (valueBy op size (p .a2 .0) (p .b2 .0)) (fieldAt (p .t2)) (put (valueBy op size (p .a1 .0) (p .b1 .0)) (fieldAt (p .t1)) (unpacked (getD core target 0))))
+              word-is : half ≡ packed (put (valueBy op size (p .a2 .0) (p .b2 .0)) (fieldBy (p .t2)) (put (valueBy op size (p .a1 .0) (p .b1 .0)) (fieldBy (p .t1)) (unpacked (getD core target 0))))
               word-is =
                   half-packed
-                  ∙ ap packed (put-twice (valueBy op size (p .a1 .0) (p .b1 .0)) (fieldAt (p .t1)) (unpacked (getD core target 0))
-                  ∙ ap (λ (x : machine.Met). put (valueBy op size (x .a) (x .b)) (x .target) (put (valueBy op size (p .a1 .0) (p .b1 .0)) (fieldAt (p .t1)) (unpacked (getD core target 0)))) (sym one))
+                  ∙ ap packed (put-twice (valueBy op size (p .a1 .0) (p .b1 .0)) (fieldBy (p .t1)) (unpacked (getD core target 0))
+                  ∙ ap (λ (x : machine.Met). put (valueBy op size (x .a) (x .b)) (x .target) (put (valueBy op size (p .a1 .0) (p .b1 .0)) (fieldBy (p .t1)) (unpacked (getD core target 0)))) (sym one))
 
         pub all-zero : (eqb (p .b1 .0) 0 && eqb (p .b2 .0) 0) ≡ true → Does op scene core target w (DivideByZero w) core
         all-zero e = does op _ (divided true true e one-too) (ap DivideByZero (sym (add-zero w))) refl
@@ -232,8 +233,8 @@ module _ (size : ℕ) (core : List ℕ) (k pc jump target ra rb w : ℕ) where
             one-too = rw (both (eqb (p .b1 .0) 0) (eqb (p .b2 .0) 0) e .0)
 
         module _ (half word : ℕ)
-            (eh : half ≡ cond (eqb (p .b1 .0) 0) (getD core target 0) (packed (withNumber (fieldAt (p .t1)) (cond (eqb op 5) (p .a1 .0 / p .b1 .0) (p .a1 .0 % p .b1 .0)) (unpacked (getD core target 0)))))
-            (ew : word ≡ cond (eqb (p .b2 .0) 0) half (packed (withNumber (fieldAt (p .t2)) (cond (eqb op 5) (p .a2 .0 / p .b2 .0) (p .a2 .0 % p .b2 .0)) (unpacked half))))
+            (eh : half ≡ cond (eqb (p .b1 .0) 0) (getD core target 0) (packed (withNumber (fieldBy (p .t1)) (cond (eqb op 5) (p .a1 .0 / p .b1 .0) (p .a1 .0 % p .b1 .0)) (unpacked (getD core target 0)))))
+            (ew : word ≡ cond (eqb (p .b2 .0) 0) half (packed (withNumber (fieldBy (p .t2)) (cond (eqb op 5) (p .a2 .0 / p .b2 .0) (p .a2 .0 % p .b2 .0)) (unpacked half))))
             (some-left : (eqb (p .b1 .0) 0 && eqb (p .b2 .0) 0) ≡ false) where
           pub one-zero : (eqb (p .b1 .0) 0 || eqb (p .b2 .0) 0) ≡ true → Does op scene core target w (DivideByZero (w + 1)) (set core target word)
           one-zero e = does op _ (divided false true some-left e) refl (ap (set core target) (parts half eh word ew))
@@ -243,7 +244,7 @@ module _ (size : ℕ) (core : List ℕ) (k pc jump target ra rb w : ℕ) where
           no-zero e next en = does op _ (divided false false some-left e) (rw en) (ap (set core target) (parts half eh word ew))
 
       pub counted : (n1 n2 word : ℕ) → n1 ≡ less size (p .b1 .0) → n2 ≡ less size (p .b2 .0)
-          → word ≡ packed (withNumber (fieldAt (p .t2)) n2 (withNumber (fieldAt (p .t1)) n1 (unpacked (getD core target 0))))
+          → word ≡ packed (withNumber (fieldBy (p .t2)) n2 (withNumber (fieldBy (p .t1)) n1 (unpacked (getD core target 0))))
           → (g : Bool) → (not (eqb n1 0) || not (eqb n2 0)) ≡ g → (r : ℕ) → r ≡ cond g jump (ahead size pc 1)
           → Does 10 scene core target w (Goes (absolute r) (w + 1)) (set core target word)
       counted n1 n2 word e1 e2 ew g eg r er = does 10 _ (counts-at scene ∙ known) (rw er) (rw ew)
@@ -251,11 +252,11 @@ module _ (size : ℕ) (core : List ℕ) (k pc jump target ra rb w : ℕ) where
           some-left : some? (λ x. not (eqb (less size (x .b)) 0)) scene ≡ g
           some-left = some-two scene p shaped (λ x. not (eqb (less size (x .b)) 0)) ∙ rw (← e1, ← e2) eg
 
-          filled : stored (machine.lowered size) (mets scene) (scene .live) ≡ withNumber (fieldAt (p .t2)) n2 (withNumber (fieldAt (p .t1)) n1 (unpacked (getD core target 0)))
+          filled : stored (machine.lowered size) (mets scene) (scene .live) ≡ withNumber (fieldBy (p .t2)) n2 (withNumber (fieldBy (p .t1)) n1 (unpacked (getD core target 0)))
           filled = stored-two scene p shaped (machine.lowered size) (scene .live) ∙ rw (e1, e2)
 
           known : machine.counts scene
-              ≡ record { cell = some (withNumber (fieldAt (p .t2)) n2 (withNumber (fieldAt (p .t1)) n1 (unpacked (getD core target 0)))); next = goes (cond g jump (ahead size pc 1)) }
+              ≡ record { cell = some (withNumber (fieldBy (p .t2)) n2 (withNumber (fieldBy (p .t1)) n1 (unpacked (getD core target 0)))); next = goes (cond g jump (ahead size pc 1)) }
           known = λ i. record { cell = some (filled i); next = goes (cond (some-left i) jump (ahead size pc 1)) }
 
       -- CMP, SEQ, SNE and SLT

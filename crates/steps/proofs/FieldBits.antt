@@ -9,20 +9,21 @@ use lib.Bits.{bitAnd, and-mask, and-high}
 use Rattle.cell.specs.declared.Cell.{Cell}
 use Rattle.cell.specs.Cells.{packed, unpacked, number, withNumber}
 use Rattle.cell.proofs.Words.{pack-unpack}
-use Rattle.steps.specs.inner.Acts.{FirstBit, fieldAt}
+use Rattle.word.specs.Words.{fieldBy}
+use Rattle.steps.specs.inner.Acts.{FirstBit}
 
 pub bit-small : {bit : ℕ} → FirstBit bit → bit < 64
 bit-small f = ⊎-elim (λ e. omega arith) (λ e. omega arith) f
 
 -- `(w >> bit) & 0xffff`
-pub number-is : (w bit : ℕ) → FirstBit bit → bitAnd (w / 2 ^ bit) 65535 ≡ number (fieldAt bit) (unpacked w)
+pub number-is : (w bit : ℕ) → FirstBit bit → bitAnd (w / 2 ^ bit) 65535 ≡ number (fieldBy bit) (unpacked w)
 number-is w bit f = and-mask (w / 2 ^ bit) 16 ∙ ⊎-elim (λ e. rw e (let h : w / 1 % 65536 ≡ w % 65536 = omega arith in h)) (λ e. rw e refl) f
 
 pub shifted-lt : (bit n : ℕ) → FirstBit bit → n < 65536 → n * 2 ^ bit < 2 ^ 32
 shifted-lt bit n f k = ⊎-elim (λ e. rw e (let q : n * 2 ^ 0 < 2 ^ 32 = omega arith in q)) (λ e. rw e (let q : n * 2 ^ 16 < 2 ^ 32 = omega arith in q)) f
 
 -- `w & 0xffff << bit`
-pub field-is : (w bit : ℕ) → FirstBit bit → bitAnd w ((65535 * 2 ^ bit) % 2 ^ 64) ≡ number (fieldAt bit) (unpacked w) * 2 ^ bit
+pub field-is : (w bit : ℕ) → FirstBit bit → bitAnd w ((65535 * 2 ^ bit) % 2 ^ 64) ≡ number (fieldBy bit) (unpacked w) * 2 ^ bit
 field-is w bit f =
     ⊎-elim (λ e. rw e (and-mask w 16 ∙ (let h : w % 65536 ≡ w % 65536 * 1 = omega arith in h))) (λ e. rw e (and-high w 16 16)) f
 
@@ -35,7 +36,7 @@ middle-field c a b n m w e f = omega arith
 
 -- the word without the number there, and with another one
 pub with-is : (w bit n : ℕ) → FirstBit bit → w < 2 ^ 46 → n < 65536
-    → w - number (fieldAt bit) (unpacked w) * 2 ^ bit + n * 2 ^ bit ≡ packed (withNumber (fieldAt bit) n (unpacked w))
+    → w - number (fieldBy bit) (unpacked w) * 2 ^ bit + n * 2 ^ bit ≡ packed (withNumber (fieldBy bit) n (unpacked w))
 with-is w bit n f h k =
     ⊎-elim (λ e. rw e (low ∙ last-field _ _ _ n _ w (pack-unpack w h) (mod-eq-of-lt k)))
     (λ e. rw e (middle ∙ middle-field _ _ _ n _ w (pack-unpack w h) (mod-eq-of-lt k))) f

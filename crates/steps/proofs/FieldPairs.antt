@@ -17,14 +17,15 @@ use Rattle.types.specs.Types.{Field, A, B, fieldPairs}
 use Rattle.cell.specs.Cells.{unpacked, soundWord, number, relative}
 use Rattle.machine.specs.Execution as machine
 use Rattle.machine.specs.Execution.{Scene, mets, some?, stored, put}
+use Rattle.word.specs.Words.{fieldBy}
 use Rattle.steps.specs.declared.modifier.Met.{Met}
-use Rattle.steps.specs.inner.Acts.{FirstBit, fieldAt, metOf, firstOf, lastOf, Below, sceneOf}
+use Rattle.steps.specs.inner.Acts.{FirstBit, metOf, firstOf, lastOf, Below, sceneOf}
 use Rattle.word.proofs.Cells.{number-below}
 
 -- the numbers that the code reads are those that meet
 pub met-is : (k ra rb : ℕ) {rows : List (List ℕ)} {a1 b1 a2 b2 : Relative} → rows ≡ fieldPairs
-    → a1 .0 ≡ number (fieldAt (getD (getD rows k []) 0 0)) (unpacked ra) → b1 .0 ≡ number (fieldAt (getD (getD rows k []) 1 0)) (unpacked rb)
-    → a2 .0 ≡ number (fieldAt (getD (getD rows k []) 2 0)) (unpacked ra) → b2 .0 ≡ number (fieldAt (getD (getD rows k []) 3 0)) (unpacked rb)
+    → a1 .0 ≡ number (fieldBy (getD (getD rows k []) 0 0)) (unpacked ra) → b1 .0 ≡ number (fieldBy (getD (getD rows k []) 1 0)) (unpacked rb)
+    → a2 .0 ≡ number (fieldBy (getD (getD rows k []) 2 0)) (unpacked ra) → b2 .0 ≡ number (fieldBy (getD (getD rows k []) 3 0)) (unpacked rb)
     → record { a1 = a1; b1 = b1; a2 = a2; b2 = b2; t1 = getD (getD rows k []) 1 0; t2 = getD (getD rows k []) 3 0 } ≡ metOf k ra rb
 unfolding metOf
 met-is k ra rb {rows} e f g h l =
@@ -100,14 +101,14 @@ module _ (s : Scene) (p : Met) (sh : Shape s p) where
   some-two t = ap not (every-two (λ x. not (t x))) ∙ neither-not (t (firstOf p)) (t (lastOf p))
 
   pub stored-two : (f : ℕ → ℕ → Option ℕ) (c : Cell)
-      → stored f (mets s) c ≡ put (f (p .a2 .0) (p .b2 .0)) (fieldAt (p .t2)) (put (f (p .a1 .0) (p .b1 .0)) (fieldAt (p .t1)) c)
+      → stored f (mets s) c ≡ put (f (p .a2 .0) (p .b2 .0)) (fieldBy (p .t2)) (put (f (p .a1 .0) (p .b1 .0)) (fieldBy (p .t1)) c)
   stored-two f c =
-      ⊎-elim (λ x. rw (x .0) (put-twice (f (p .a1 .0) (p .b1 .0)) (fieldAt (p .t1)) c ∙ again (x .1))) (λ x. rw x) sh
+      ⊎-elim (λ x. rw (x .0) (put-twice (f (p .a1 .0) (p .b1 .0)) (fieldBy (p .t1)) c ∙ again (x .1))) (λ x. rw x) sh
     where
       again : lastOf p ≡ firstOf p
-          → put (f (p .a1 .0) (p .b1 .0)) (fieldAt (p .t1)) (put (f (p .a1 .0) (p .b1 .0)) (fieldAt (p .t1)) c)
-          ≡ put (f (p .a2 .0) (p .b2 .0)) (fieldAt (p .t2)) (put (f (p .a1 .0) (p .b1 .0)) (fieldAt (p .t1)) c)
-      again e = ap (λ (x : machine.Met). put (f (x .a) (x .b)) (x .target) (put (f (p .a1 .0) (p .b1 .0)) (fieldAt (p .t1)) c)) (sym e)
+          → put (f (p .a1 .0) (p .b1 .0)) (fieldBy (p .t1)) (put (f (p .a1 .0) (p .b1 .0)) (fieldBy (p .t1)) c)
+          ≡ put (f (p .a2 .0) (p .b2 .0)) (fieldBy (p .t2)) (put (f (p .a1 .0) (p .b1 .0)) (fieldBy (p .t1)) c)
+      again e = ap (λ (x : machine.Met). put (f (x .a) (x .b)) (x .target) (put (f (p .a1 .0) (p .b1 .0)) (fieldBy (p .t1)) c)) (sym e)
 
 -- the numbers that meet are those of sound cells
 pub met-below : (size k ra rb : ℕ) (p : Met) → p ≡ metOf k ra rb → soundWord size ra ≡ true → soundWord size rb ≡ true → Below size p
@@ -116,8 +117,8 @@ met-below size k ra rb p e f g =
     let row = getD fieldPairs k [] in
     rw e
     (record {
-      a1 = number-below (fieldAt (getD row 0 0)) size ra f;
-      b1 = number-below (fieldAt (getD row 1 0)) size rb g;
-      a2 = number-below (fieldAt (getD row 2 0)) size ra f;
-      b2 = number-below (fieldAt (getD row 3 0)) size rb g;
+      a1 = number-below (fieldBy (getD row 0 0)) size ra f;
+      b1 = number-below (fieldBy (getD row 1 0)) size rb g;
+      a2 = number-below (fieldBy (getD row 2 0)) size ra f;
+      b2 = number-below (fieldBy (getD row 3 0)) size rb g;
     })

@@ -3,25 +3,26 @@
 use mathlib.Core.Path.{_≡_, sym, ap, ap₂, _∙_}
 use mathlib.Core.Bool.{true}
 use mathlib.Core.List.{List}
+use mathlib.Core.Logic.{inl, inr}
 use Prim.Native.Nat.{ℕ, _/_, _%_, _^_, _≤_, _<_, zero-le}
 use native.Mathlib.Omega.{arith}
 use lib.ListN.{length, getD, set}
 use Rattle.laws.proofs.Cases.{span}
 use Rattle.offset.specs.declared.Absolute.{Absolute}
 use Rattle.offset.specs.Offset.{ahead}
-use Rattle.types.specs.Types.{Field}
+use Rattle.types.specs.Types.{Field, A, B, firstBit}
 use Rattle.cell.specs.Cells.{packed, unpacked, soundWord, number, withNumber}
 use Rattle.cell.proofs.Soundness.{sound-fields}
 use Rattle.word.proofs.Cells.{ahead-below, number-below}
 use Rattle.machine.specs.declared.Rules.{Rules}
 use Rattle.machine.specs.Pointers as machine
 use Rattle.machine.specs.Pointers.{Shift, shifts, keeps, lowers, raises, less, more, shifted, siteAt, operand}
-use Rattle.word.specs.Words.{fieldBy}
-use Rattle.address.specs.Rounding.{incremented, aimed}
+use Rattle.address.specs.Rounding.{incremented, fieldThrough, aimed}
 use Rattle.address.specs.inner.Operands.{soundSeen, Ready}
 use Rattle.address.proofs.Pointing as law
 use Rattle.steps.specs.declared.operand.Operand.{Operand}
 use Rattle.steps.specs.inner.Instruction.{operandOf}
+use Rattle.steps.specs.inner.Acts.{FirstBit}
 
 -- the number that a pointer is made of, and one more, fit a field
 aimed-small : (t : Shift) (size n : ℕ) → n < size → size ≤ 46341 → aimed t size n < 65536
@@ -32,12 +33,10 @@ aimed-small raises size n h l = omega arith
 raised-small : (size n : ℕ) → n < size → size ≤ 46341 → incremented size n < 65536
 raised-small size n h l = let k : more size n < size = ahead-below _ _ h in rw (law.is-more size n h) (omega arith)
 
--- a field by another name
-pub number-by : {f g : Field} → f ≡ g → (w : ℕ) {n : ℕ} → n ≡ number f (unpacked w) → n ≡ number g (unpacked w)
-number-by e w h = h ∙ ap (λ (f : Field). number f (unpacked w)) e
-
-pub with-by : {f g : Field} → f ≡ g → (w n : ℕ) {v : ℕ} → v ≡ packed (withNumber f n (unpacked w)) → v ≡ packed (withNumber g n (unpacked w))
-with-by e w n h = h ∙ ap (λ (f : Field). packed (withNumber f n (unpacked w))) e
+-- the first bit of a field is one
+pub first-bit : (f : Field) {bit : ℕ} → bit ≡ firstBit f → FirstBit bit
+first-bit A e = inr e
+first-bit B e = inl e
 
 module _ (rules : Rules) (core : List ℕ) (pc mode n : ℕ) where
   abbrev its : machine.Operand
@@ -68,10 +67,10 @@ module _ (rules : Rules) (core : List ℕ) (pc mode n : ℕ) where
     dollar e = gives {pointer = location} (law.dollar rules core pc mode n (location .0) is there-sound e)
 
     module _ (k : Ready rules core pc n) (two : 2 ≤ mode) (eight : mode < 8) (found to : ℕ) (pointer : Absolute)
-        (es : found ≡ number (fieldBy (mode % 2)) (unpacked (getD core (location .0) 0))) (et : to ≡ aimed (getD shifts mode keeps) size found)
+        (es : found ≡ number (fieldThrough mode) (unpacked (getD core (location .0) 0))) (et : to ≡ aimed (getD shifts mode keeps) size found)
         (ep : pointer .0 ≡ ahead size (location .0) to) where
       found-below : found < size
-      found-below = rw es (number-below (fieldBy (mode % 2)) size (getD core (location .0) 0) there-sound)
+      found-below = rw es (number-below (fieldThrough mode) size (getD core (location .0) 0) there-sound)
 
       pub to-small : to < 65536
       to-small = rw et (aimed-small (getD shifts mode keeps) size found found-below (k .valid))
@@ -88,13 +87,13 @@ module _ (rules : Rules) (core : List ℕ) (pc mode n : ℕ) where
       plain l = gives {pointer = pointer} (law.plain rules core pc mode n (location .0) is there-sound two eight found to (pointer .0) es et ep pointed l)
 
       module _ (l : List ℕ) (word : ℕ) (el : l ≡ set core (location .0) word) where
-        pub lower : 4 ≤ mode → mode < 6 → word ≡ packed (withNumber (fieldBy (mode % 2)) to (unpacked (getD core (location .0) 0)))
+        pub lower : 4 ≤ mode → mode < 6 → word ≡ packed (withNumber (fieldThrough mode) to (unpacked (getD core (location .0) 0)))
             → (register : ℕ) → register ≡ getD (set core (location .0) word) (pointer .0) 0
             → Gives (record { pointer = pointer; register = register }) l
         lower p q ew register er =
             gives {pointer = pointer} (law.lower rules core pc mode n (location .0) is there-sound two eight found to (pointer .0) es et ep pointed l word el (k .valid) p q ew register er)
 
-        pub raise : 6 ≤ mode → (up : ℕ) → up ≡ incremented size found → word ≡ packed (withNumber (fieldBy (mode % 2)) up (unpacked (getD core (location .0) 0)))
+        pub raise : 6 ≤ mode → (up : ℕ) → up ≡ incremented size found → word ≡ packed (withNumber (fieldThrough mode) up (unpacked (getD core (location .0) 0)))
             → (register : ℕ) → register ≡ getD core (pointer .0) 0
             → Gives (record { pointer = pointer; register = register }) l
         raise p up eu ew register er =

@@ -3,7 +3,8 @@ ghost use mathlib.Core.Path.{_≡_};
 ghost use Prim.Native.Nat.{_^_, _<_, _≤_};
 ghost use Rattle.types.specs.Types.{fieldPairs};
 ghost use Rattle.cell.specs.Cells.{packed, unpacked, number, withNumber};
-ghost use Rattle.steps.specs.inner.Acts.{FirstBit, fieldAt, metOf};
+ghost use Rattle.word.specs.Words.{fieldBy};
+ghost use Rattle.steps.specs.inner.Acts.{FirstBit, metOf};
 use offset::Relative;
 
 // The modifier's number.
@@ -17,7 +18,7 @@ pub(crate) fn modifier(w: u64) -> u8
 // The number in the field that begins at a bit: 16 is the A field's, 0 the B field's.
 pub(crate) fn number_at(w: u64, bit: u64) -> Relative
     requires { ⌜ FirstBit bit ⌝ }
-    ensures { λ r. ⌜ r .0 ≡ number (fieldAt bit) (unpacked w) ⌝ }
+    ensures { λ r. ⌜ r .0 ≡ number (fieldBy bit) (unpacked w) ⌝ }
 {
     let n = ((w >> bit) & 0xffff) as u32;
     Relative(n)
@@ -26,7 +27,7 @@ pub(crate) fn number_at(w: u64, bit: u64) -> Relative
 // The word of a sound cell with another number in that field.
 pub(crate) fn with_number_at(w: u64, bit: u64, n: Relative) -> u64
     requires { ⌜ FirstBit bit × (w < 2 ^ 46) × (n .0 < 65536) ⌝ }
-    ensures { λ r. ⌜ r ≡ packed (withNumber (fieldAt bit) (n .0) (unpacked w)) ⌝ }
+    ensures { λ r. ⌜ r ≡ packed (withNumber (fieldBy bit) (n .0) (unpacked w)) ⌝ }
 {
     let mask = 0xffff << bit;
     let rest = w - (w & mask);

@@ -7,7 +7,8 @@ ghost use lib.Dec.{eqb, ltb};
 ghost use lib.ListN.{getD};
 ghost use Rattle.types.specs.Types.{fieldPairs};
 ghost use Rattle.cell.specs.Cells.{packed, unpacked, withNumber};
-ghost use Rattle.steps.specs.inner.Acts.{copyOf, FirstBit, fieldAt, sceneOf, valueBy, SoundScene, Answers, Does};
+ghost use Rattle.word.specs.Words.{fieldBy};
+ghost use Rattle.steps.specs.inner.Acts.{copyOf, FirstBit, sceneOf, valueBy, SoundScene, Answers, Does};
 use crate::modifier::Met;
 use crate::modifier::meet;
 use crate::modifier::modifier;
@@ -63,7 +64,7 @@ fn copy(to: u64, from: u64) -> u64
 // The target word with a number in each target field, first pair first.
 fn store(t: u64, t1: u64, n1: Relative, t2: u64, n2: Relative) -> u64
     requires { ⌜ (t < 2 ^ 46) × FirstBit t1 × (n1 .0 < 65536) × FirstBit t2 × (n2 .0 < 65536) ⌝ }
-    ensures { λ r. ⌜ r ≡ packed (withNumber (fieldAt t2) (n2 .0) (withNumber (fieldAt t1) (n1 .0) (unpacked t))) ⌝ }
+    ensures { λ r. ⌜ r ≡ packed (withNumber (fieldBy t2) (n2 .0) (withNumber (fieldBy t1) (n1 .0) (unpacked t))) ⌝ }
 {
     with_number_at(with_number_at(t, t1, n1), t2, n2)
 }
@@ -150,7 +151,7 @@ fn sums(
 // DIV a/b and MOD a mod b in a target field, which a zero b leaves.
 fn part(opcode: u64, t: u64, bit: u64, a: Relative, b: Relative) -> u64
     requires { ⌜ (t < 2 ^ 46) × FirstBit bit × (a .0 < 65536) ⌝ }
-    ensures { λ r. ⌜ r ≡ cond (eqb (b .0) 0) t (packed (withNumber (fieldAt bit) (cond (eqb opcode 5) (a .0 / b .0) (a .0 % b .0)) (unpacked t))) ⌝ }
+    ensures { λ r. ⌜ r ≡ cond (eqb (b .0) 0) t (packed (withNumber (fieldBy bit) (cond (eqb opcode 5) (a .0 / b .0) (a .0 % b .0)) (unpacked t))) ⌝ }
 {
     if b.0 == 0 {
         return t;

@@ -1,18 +1,17 @@
 // Operands of an instruction that is not refused: where they point, and the cells that they read and change (01, 'Pointers').
 ghost use mathlib.Core.Path.{_≡_};
 ghost use mathlib.Core.Bool.{true};
-ghost use Prim.Native.Nat.{_%_, _<_, _≤_};
+ghost use Prim.Native.Nat.{_<_, _≤_};
 ghost use lib.ListN.{length, getD, set};
 ghost use Rattle.cell.specs.Cells.{unpacked, soundWord};
 ghost use Rattle.machine.specs.Pointers as spec;
 ghost use Rattle.machine.specs.Instruction.{fetched, aOperand};
 ghost use Rattle.address.specs.inner.Operands.{Ready, Fetched, soundSeen};
-ghost use Rattle.word.specs.Words.{fieldBy};
 ghost use Rattle.steps.specs.inner.Instruction.{operandOf};
-ghost use Rattle.steps.specs.inner.Acts.{FirstBit, fieldAt};
 use crate::modifier::number_at;
 use crate::modifier::with_number_at;
 use address::aim;
+use address::field_of;
 use address::increment;
 use machine::Rules;
 use offset::Absolute;
@@ -76,16 +75,6 @@ fn raise(core: &mut [u64], at: usize, there: usize, raised: u64) -> u64
     copied
 }
 
-// The first bit of the field that a mode goes through: the A number's for an even mode, the B number's for an odd one.
-fn field_of(mode: u64) -> u64
-    ensures { λ r. ⌜ FirstBit r × (fieldAt r ≡ fieldBy (mode % 2)) ⌝ }
-{
-    if mode % 2 == 0 {
-        return A;
-    }
-    B
-}
-
 // The six modes that go through the A number (even) or the B number (odd) of the cell at the location.
 fn indirect(core: &mut [u64], rules: Rules, pc: Absolute, mode: u64, n: Relative) -> Operand
     requires { ⌜ Ready rules (now core) (pc .0) (n .0) × (2 ≤ mode) × (mode < 8)
@@ -124,7 +113,7 @@ pub(crate) fn a_operand(core: &mut [u64], rules: Rules, pc: Absolute, here: u64)
     ensures { λ r. ⌜ (r ≡ operandOf (aOperand (spec.siteAt rules (pc .0)) (now (core .entry)))) × (now (core .exit) ≡ aOperand (spec.siteAt rules (pc .0)) (now (core .entry)) .core) ⌝ }
 {
     let mode = a_mode(here);
-    let n = number(here, 0);
+    let n = number(here, A);
     if mode < INDIRECT_A {
         return direct(core, rules, pc, here, mode, n);
     }
@@ -141,7 +130,7 @@ pub(crate) fn b_operand(core: &mut [u64], rules: Rules, pc: Absolute, here: u64)
     let mode = b_mode(here);
     let at = pc.0 as usize;
     let again = core[at];
-    let n = number(again, 1);
+    let n = number(again, B);
     if mode < INDIRECT_A {
         return direct(core, rules, pc, again, mode, n);
     }

@@ -1,4 +1,4 @@
--- The number fields by the code's numbers, and what a reducing addition gives in a core of some cells.
+-- The number fields by their first bits, and what a reducing addition gives in a core of some cells.
 -- Believed. Assumes nothing.
 use Prim.Native.Nat.{ℕ, _<_}
 use mathlib.Core.Path.{_≡_}
@@ -7,9 +7,9 @@ use lib.Dec.{eqb}
 use Rattle.offset.specs.Offset.{ahead}
 use Rattle.types.specs.Types.{Field, A, B}
 
--- 0 is the A field, any other number the B field
+-- a field by its first bit: 16 is the A field's, and any other number is taken for the B field's
 abbrev pub fieldBy : ℕ → Field
-fieldBy n = cond (eqb n 0) A B
+fieldBy bit = cond (eqb bit 16) A B
 
 -- a sum, reduced to a place or a number of the core
 pub record Reduced (size a b r : ℕ) : Type 0 where

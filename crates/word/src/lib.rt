@@ -5,6 +5,7 @@ ghost use Rattle.word.specs.Words.{fieldBy};
 use cell::with_a;
 use cell::with_b;
 use offset::Relative;
+use types::field::A;
 
 // The opcode's number.
 pub fn opcode(w: u64) -> u64
@@ -27,11 +28,11 @@ pub fn b_mode(w: u64) -> u64
     (w >> 32) & 7
 }
 
-// The number in a field: 0 is the A field, 1 the B field.
-pub fn number(w: u64, field: u8) -> Relative
+// The number in a field, which is told by its first bit.
+pub fn number(w: u64, field: u64) -> Relative
     ensures { λ r. ⌜ r .0 ≡ spec.number (fieldBy field) (spec.unpacked w) ⌝ }
 {
-    if field == 0 {
+    if field == A {
         let a = ((w >> 16) & 0xffff) as u32;
         return Relative(a);
     }
@@ -40,10 +41,10 @@ pub fn number(w: u64, field: u8) -> Relative
 }
 
 // The word with another number in a field.
-pub fn with_number(w: u64, field: u8, n: Relative) -> u64
+pub fn with_number(w: u64, field: u64, n: Relative) -> u64
     ensures { λ r. ⌜ r ≡ spec.packed (spec.withNumber (fieldBy field) (n .0) (spec.unpacked w)) ⌝ }
 {
-    if field == 0 {
+    if field == A {
         return with_a(w, n);
     }
     with_b(w, n)

@@ -2,15 +2,15 @@
 -- Inner. Assumes nothing.
 use Prim.Native.Nat.{ℕ, _+_, _≤_, _<_}
 use mathlib.Core.Path.{_≡_}
-use mathlib.Core.Bool.{true, cond}
+use mathlib.Core.Bool.{true}
 use mathlib.Core.Logic.{_⊎_}
 use mathlib.Core.List.{List, [], _∷_}
 use mathlib.Core.Option.{Option, none, some}
-use lib.Dec.{eqb}
 use lib.ListN.{length, getD}
 use Rattle.cell.specs.declared.Cell.{Cell}
-use Rattle.types.specs.Types.{Field, A, B, fieldPairs}
+use Rattle.types.specs.Types.{fieldPairs}
 use Rattle.cell.specs.Cells.{unpacked, soundWord, number, relative}
+use Rattle.word.specs.Words.{fieldBy}
 use Rattle.machine.specs.Execution as machine
 use Rattle.machine.specs.Instruction.{storeTo}
 use Rattle.steps.specs.declared.opcode.Executed.{Executed}
@@ -22,31 +22,28 @@ abbrev pub copyOf : Cell → Cell → Cell
 copyOf to from =
     record { opcode = from .opcode; modifier = from .modifier; «a_mode» = to .«a_mode»; «b_mode» = to .«b_mode»; a = from .a; b = from .b }
 
--- the first bit of a number field, and the field that begins there
+-- the first bit of a number field
 abbrev pub FirstBit : ℕ → Type 0
 FirstBit bit = (bit ≡ 0) ⊎ (bit ≡ 16)
-
-abbrev pub fieldAt : ℕ → Field
-fieldAt bit = cond (eqb bit 0) B A
 
 -- the numbers that meet, and the first bits of their target fields
 unfoldable pub metOf : ℕ → ℕ → ℕ → Met
 metOf modifier ra rb =
     let row = getD fieldPairs modifier [] in
     record {
-      a1 = relative (number (fieldAt (getD row 0 0)) (unpacked ra));
-      b1 = relative (number (fieldAt (getD row 1 0)) (unpacked rb));
-      a2 = relative (number (fieldAt (getD row 2 0)) (unpacked ra));
-      b2 = relative (number (fieldAt (getD row 3 0)) (unpacked rb));
+      a1 = relative (number (fieldBy (getD row 0 0)) (unpacked ra));
+      b1 = relative (number (fieldBy (getD row 1 0)) (unpacked rb));
+      a2 = relative (number (fieldBy (getD row 2 0)) (unpacked ra));
+      b2 = relative (number (fieldBy (getD row 3 0)) (unpacked rb));
       t1 = getD row 1 0;
       t2 = getD row 3 0;
     }
 
 abbrev pub firstOf : Met → machine.Met
-firstOf p = record { a = p .a1 .0; b = p .b1 .0; target = fieldAt (p .t1) }
+firstOf p = record { a = p .a1 .0; b = p .b1 .0; target = fieldBy (p .t1) }
 
 abbrev pub lastOf : Met → machine.Met
-lastOf p = record { a = p .a2 .0; b = p .b2 .0; target = fieldAt (p .t2) }
+lastOf p = record { a = p .a2 .0; b = p .b2 .0; target = fieldBy (p .t2) }
 
 -- numbers below the size
 pub record Below (size : ℕ) (p : Met) : Type 0 where

@@ -3,8 +3,9 @@
 use borrow.Author.Needs.{needs}
 use Rattle.steps.proofs.operand.indirect.Statement.{statement}
 use Rattle.steps.proofs.operand.indirect.Tie as tie
-use Rattle.word.proofs.Cells.{reduced}
-use Rattle.steps.proofs.Operating.{number-by, with-by, there-small, to-small, up-small, plain, lower, raise}
+use Rattle.address.specs.Rounding.{fieldThrough}
+use Rattle.word.proofs.Cells.{reduced, number-by, with-by}
+use Rattle.steps.proofs.Operating.{first-bit, there-small, to-small, up-small, plain, lower, raise}
 
 slice-read-old : tie.Need-slice-read-old
 slice-read-old c =
@@ -29,7 +30,7 @@ returns c =
     let c11 = c9 .before .before in
     let a = c11 .args in
     plain (a .rules) (a .core .now) (a .pc .0) (a .mode) (a .n .0) (c11 .pre .3) (c9 .add .result)
-    (reduced _ _ (c11 .pre .0 .place) (c9 .add .ensures) .is) (c11 .pre .0) (c11 .pre .1) (c11 .pre .2) _ _ (c3 .add2 .result) (number-by (c6 .field-of .ensures .1) _ (c5 .number-at .ensures)) (c4 .aim .ensures)
+    (reduced _ _ (c11 .pre .0 .place) (c9 .add .ensures) .is) (c11 .pre .0) (c11 .pre .1) (c11 .pre .2) _ _ (c3 .add2 .result) (number-by (fieldThrough (a .mode)) _ (c6 .field-of .ensures) (c5 .number-at .ensures)) (c4 .aim .ensures)
     (reduced _ _ (c11 .pre .0 .place) (c3 .add2 .ensures) .is) (c1 .if1 .taken)
 
 with-number-at-requires : tie.Need-with-number-at-requires
@@ -41,11 +42,11 @@ with-number-at-requires c κs =
     let c10 = c7 .before .before .before in
     let c12 = c10 .before .before in
     let a = c12 .args in (
-      c7 .field-of .ensures .0,
+      first-bit (fieldThrough (a .mode)) (c7 .field-of .ensures),
       there-small (a .rules) (a .core .now) (a .pc .0) (a .mode) (a .n .0) (c12 .pre .3) (c10 .add .result)
           (reduced _ _ (c12 .pre .0 .place) (c10 .add .ensures) .is),
       to-small (a .rules) (a .core .now) (a .pc .0) (a .mode) (a .n .0) (c12 .pre .3) (c10 .add .result)
-          (reduced _ _ (c12 .pre .0 .place) (c10 .add .ensures) .is) (c12 .pre .0) (c12 .pre .1) (c12 .pre .2) _ _ (c4 .add2 .result) (number-by (c7 .field-of .ensures .1) _ (c6 .number-at .ensures)) (c5 .aim .ensures)
+          (reduced _ _ (c12 .pre .0 .place) (c10 .add .ensures) .is) (c12 .pre .0) (c12 .pre .1) (c12 .pre .2) _ _ (c4 .add2 .result) (number-by (fieldThrough (a .mode)) _ (c7 .field-of .ensures) (c6 .number-at .ensures)) (c5 .aim .ensures)
           (reduced _ _ (c12 .pre .0 .place) (c4 .add2 .ensures) .is),
     )
 
@@ -72,8 +73,8 @@ returns-2 c =
     let c16 = c14 .before .before in
     let a = c16 .args in
     lower (a .rules) (a .core .now) (a .pc .0) (a .mode) (a .n .0) (c16 .pre .3) (c14 .add .result)
-    (reduced _ _ (c16 .pre .0 .place) (c14 .add .ensures) .is) (c16 .pre .0) (c16 .pre .1) (c16 .pre .2) _ _ (c8 .add2 .result) (number-by (c11 .field-of .ensures .1) _ (c10 .number-at .ensures)) (c9 .aim .ensures)
-    (reduced _ _ (c16 .pre .0 .place) (c8 .add2 .ensures) .is) _ _ (c2 .lower .ensures .1) (c6 .if1 .left) (c5 .if2 .taken) (with-by (c11 .field-of .ensures .1) _ _ (c3 .with-number-at .ensures)) _ (c2 .lower .ensures .0)
+    (reduced _ _ (c16 .pre .0 .place) (c14 .add .ensures) .is) (c16 .pre .0) (c16 .pre .1) (c16 .pre .2) _ _ (c8 .add2 .result) (number-by (fieldThrough (a .mode)) _ (c11 .field-of .ensures) (c10 .number-at .ensures)) (c9 .aim .ensures)
+    (reduced _ _ (c16 .pre .0 .place) (c8 .add2 .ensures) .is) _ _ (c2 .lower .ensures .1) (c6 .if1 .left) (c5 .if2 .taken) (with-by (fieldThrough (a .mode)) _ _ (c11 .field-of .ensures) (c3 .with-number-at .ensures)) _ (c2 .lower .ensures .0)
 
 with-number-at-requires-2 : tie.Need-with-number-at-requires-2
 with-number-at-requires-2 c κs =
@@ -85,11 +86,11 @@ with-number-at-requires-2 c κs =
     let c11 = c8 .before .before .before in
     let c13 = c11 .before .before in
     let a = c13 .args in (
-      c8 .field-of .ensures .0,
+      first-bit (fieldThrough (a .mode)) (c8 .field-of .ensures),
       there-small (a .rules) (a .core .now) (a .pc .0) (a .mode) (a .n .0) (c13 .pre .3) (c11 .add .result)
           (reduced _ _ (c13 .pre .0 .place) (c11 .add .ensures) .is),
       up-small (a .rules) (a .core .now) (a .pc .0) (a .mode) (a .n .0) (c13 .pre .3) (c11 .add .result)
-          (reduced _ _ (c13 .pre .0 .place) (c11 .add .ensures) .is) (c13 .pre .0) (c13 .pre .1) (c13 .pre .2) _ _ (c5 .add2 .result) (number-by (c8 .field-of .ensures .1) _ (c7 .number-at .ensures)) (c6 .aim .ensures)
+          (reduced _ _ (c13 .pre .0 .place) (c11 .add .ensures) .is) (c13 .pre .0) (c13 .pre .1) (c13 .pre .2) _ _ (c5 .add2 .result) (number-by (fieldThrough (a .mode)) _ (c8 .field-of .ensures) (c7 .number-at .ensures)) (c6 .aim .ensures)
           (reduced _ _ (c13 .pre .0 .place) (c5 .add2 .ensures) .is) (c1 .increment .ensures),
     )
 
@@ -116,8 +117,8 @@ returns-3 c =
     let c17 = c15 .before .before in
     let a = c17 .args in
     raise (a .rules) (a .core .now) (a .pc .0) (a .mode) (a .n .0) (c17 .pre .3) (c15 .add .result)
-    (reduced _ _ (c17 .pre .0 .place) (c15 .add .ensures) .is) (c17 .pre .0) (c17 .pre .1) (c17 .pre .2) _ _ (c9 .add2 .result) (number-by (c12 .field-of .ensures .1) _ (c11 .number-at .ensures)) (c10 .aim .ensures)
-    (reduced _ _ (c17 .pre .0 .place) (c9 .add2 .ensures) .is) _ _ (c2 .raise .ensures .1) (c6 .if2 .left) _ (c5 .increment .ensures) (with-by (c12 .field-of .ensures .1) _ _ (c3 .with-number-at2 .ensures)) _ (c2 .raise .ensures .0)
+    (reduced _ _ (c17 .pre .0 .place) (c15 .add .ensures) .is) (c17 .pre .0) (c17 .pre .1) (c17 .pre .2) _ _ (c9 .add2 .result) (number-by (fieldThrough (a .mode)) _ (c12 .field-of .ensures) (c11 .number-at .ensures)) (c10 .aim .ensures)
+    (reduced _ _ (c17 .pre .0 .place) (c9 .add2 .ensures) .is) _ _ (c2 .raise .ensures .1) (c6 .if2 .left) _ (c5 .increment .ensures) (with-by (fieldThrough (a .mode)) _ _ (c12 .field-of .ensures) (c3 .with-number-at2 .ensures)) _ (c2 .raise .ensures .0)
 
 add-requires : tie.Need-add-requires
 add-requires c κs = search needs
@@ -132,7 +133,9 @@ field-of-requires : tie.Need-field-of-requires
 field-of-requires c κs = search needs
 
 number-at-requires : tie.Need-number-at-requires
-number-at-requires c κs = c .field-of .ensures .0
+number-at-requires c κs =
+    let c5 = c .before .before .before .before .before in
+    first-bit (fieldThrough (c5 .args .mode)) (c .field-of .ensures)
 
 aim-requires : tie.Need-aim-requires
 aim-requires c κs = search needs
