@@ -13,7 +13,7 @@ use Rattle.laws.proofs.Tests.{both}
 use Rattle.offset.specs.Offset.{ahead}
 use Rattle.cell.specs.Cells.{unpacked, soundWord, store}
 use Rattle.machine.specs.declared.Rules.{Rules}
-use Rattle.machine.specs.Pointers.{Site, siteAt, operand}
+use Rattle.machine.specs.Pointers.{Site, siteAt}
 use Rattle.machine.specs.Instruction.{aOperand, bOperand}
 use Rattle.word.proofs.Cells.{ahead-below}
 use Rattle.address.specs.inner.Operands.{soundSeen, Fetched}
