@@ -1,21 +1,22 @@
-// Whether a warrior would be loaded, and if not, why (01, 'Load'): nothing is changed.
+// Whether a warrior would be loaded into a record whose header was tested, and if not, why (01, 'Load'): nothing is changed.
 ghost use mathlib.Core.Path.{_≡_};
 ghost use mathlib.Core.Bool.{_&&_};
+ghost use mathlib.Core.List.{[]};
 ghost use Prim.Native.Nat.{_<_};
 ghost use lib.Dec.{eqb, ltb};
 ghost use lib.ListN.{length, getD};
 ghost use Rattle.answer.specs.Numbers.{told};
-ghost use Rattle.lent.specs.Parts.{machineOf};
-ghost use Rattle.load_checks.specs.Refusal.{loadTold};
+ghost use Rattle.lent.specs.Parts.{namesOf, headerOf, machineOf};
+ghost use Rattle.load_checks.specs.Refusal.{testedTold};
 use answer::Answer;
-use machine::Header;
+use machine::Ring;
+use machine::Rules;
 use machine::limits::LAST_NUMBER;
 use metadata::valid_name;
 use names::find;
 use program::len;
 use program::lowest_fault;
 use queue::full;
-use soundness::sound_header;
 
 // Whether a held name has no thread number left.
 fn exhausted(threads: &[u32; 16], i: u32, held: u32) -> bool
@@ -27,32 +28,27 @@ fn exhausted(threads: &[u32; 16], i: u32, held: u32) -> bool
     (i < held) & (thread == LAST_NUMBER)
 }
 
-// What load answers under a name that is not empty.
-fn refusal_named(
-    core: &[u64],
+// What it answers under a name that is not empty.
+fn refusal_named<'a>(
     queue: &[u64],
-    h: Header,
+    rules: Rules,
+    ring: Ring,
+    held: u32,
+    names: &'a [u8; 512],
+    lengths: &'a [u8; 16],
+    threads: &'a [u32; 16],
     name: &[u8],
     body: &[u8],
     place: u32,
 ) -> Answer
     requires { ⌜ 0 < length (now name) ⌝ }
-    ensures { λ r. ⌜ told r ≡ loadTold (machineOf (now (core .entry)) (now (queue .entry)) h) (now (name .entry)) (now (body .entry)) place ⌝ }
+    ensures { λ r. ⌜ told r ≡ testedTold (machineOf [] (now (queue .entry)) (headerOf rules ring (namesOf held (now (names .entry)) (now (lengths .entry))) [] (now (threads .entry)))) (now (name .entry)) (now (body .entry)) place ⌝ }
 {
-    if !sound_header(
-        core,
-        queue,
-        h.rules,
-        h.ring,
-        h.names.held,
-        &h.names.bytes,
-        &h.names.lengths,
-        &h.counts,
-    ) {
+    if held > 16 {
         return Answer::UnsoundRecord;
     }
     let count = len(body);
-    if (h.rules.size as usize) < count {
+    if (rules.size as usize) < count {
         return Answer::WarriorTooLong;
     }
     let fault = lowest_fault(body);
@@ -62,36 +58,62 @@ fn refusal_named(
     if !valid_name(name) {
         return Answer::InvalidNameOrPlace;
     }
-    if h.rules.size <= place {
+    if rules.size <= place {
         return Answer::InvalidNameOrPlace;
     }
-    if full(queue, h.ring) {
+    if full(queue, ring) {
         return Answer::NoRoom;
     }
-    let i = find(&h.names.bytes, &h.names.lengths, h.names.held, name);
+    let i = find(names, lengths, held, name);
     if 16 <= i {
         return Answer::NoRoom;
     }
-    if exhausted(&h.threads, i, h.names.held) {
+    if exhausted(threads, i, held) {
         return Answer::NumbersExhausted;
     }
     Answer::Done
 }
 
-// The answer of the first check of load that applies, or Done where none does; an empty name is Warrior0.
-pub fn refusal(
-    core: &[u64],
+// The answer of the first check of load that applies past the test of the header, or Done where none does; an empty name is Warrior0.
+pub fn refusal<'a>(
     queue: &[u64],
-    h: Header,
+    rules: Rules,
+    ring: Ring,
+    held: u32,
+    names: &'a [u8; 512],
+    lengths: &'a [u8; 16],
+    threads: &'a [u32; 16],
     name: &[u8],
     body: &[u8],
     place: u32,
 ) -> Answer
-    ensures { λ r. ⌜ told r ≡ loadTold (machineOf (now (core .entry)) (now (queue .entry)) h) (now (name .entry)) (now (body .entry)) place ⌝ }
+    ensures { λ r. ⌜ told r ≡ testedTold (machineOf [] (now (queue .entry)) (headerOf rules ring (namesOf held (now (names .entry)) (now (lengths .entry))) [] (now (threads .entry)))) (now (name .entry)) (now (body .entry)) place ⌝ }
 {
     if name.len() == 0 {
         let warrior0 = *b"Warrior0";
-        return refusal_named(core, queue, h, &warrior0[..], body, place);
+        return refusal_named(
+            queue,
+            rules,
+            ring,
+            held,
+            names,
+            lengths,
+            threads,
+            &warrior0[..],
+            body,
+            place,
+        );
     }
-    refusal_named(core, queue, h, name, body, place)
+    refusal_named(
+        queue,
+        rules,
+        ring,
+        held,
+        names,
+        lengths,
+        threads,
+        name,
+        body,
+        place,
+    )
 }

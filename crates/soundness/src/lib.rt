@@ -193,6 +193,21 @@ fn wide(n: u32) -> u64
     n as u64
 }
 
+// The lengths of the header's arrays.
+pub fn sized<'a>(
+    names: &'a [u8; 512],
+    lengths: &'a [u8; 16],
+    counts: &'a [u32; 16],
+    threads: &'a [u32; 16],
+)
+    ensures { λ _. ⌜ (length (now (names .entry)) ≡ 512) × (length (now (lengths .entry)) ≡ 16) × (length (now (counts .entry)) ≡ 16) × (length (now (threads .entry)) ≡ 16) ⌝ }
+{
+    let _n = &names[..];
+    let _l = &lengths[..];
+    let _c = &counts[..];
+    let _t = &threads[..];
+}
+
 // Whether a header is sound beside the core's and the queue's memory.
 pub fn sound_header<'a>(
     core: &[u64],

@@ -1,6 +1,5 @@
 // Step and run on the lent parts of any record: the test of its header, then the run loop.
 ghost use mathlib.Core.Path.{_≡_};
-ghost use lib.ListN.{length};
 ghost use Rattle.answer.specs.Numbers.{told};
 ghost use Rattle.machine.specs.declared.Ceiling.the-variants.{Steps};
 ghost use Rattle.machine.specs.Run as spec;
@@ -10,6 +9,7 @@ use crate::running::run_loop;
 use answer::Answer;
 use machine::Ring;
 use machine::Rules;
+use soundness::sized;
 use soundness::sound_header;
 
 mod execute;
@@ -27,21 +27,6 @@ pub struct Ran {
     pub steps: u64,
     pub ring: Ring,
     pub taken: u32,
-}
-
-// The lengths of the header's arrays.
-fn sized<'a>(
-    names: &'a [u8; 512],
-    lengths: &'a [u8; 16],
-    counts: &'a [u32; 16],
-    threads: &'a [u32; 16],
-)
-    ensures { λ _. ⌜ (length (now (names .entry)) ≡ 512) × (length (now (lengths .entry)) ≡ 16) × (length (now (counts .entry)) ≡ 16) × (length (now (threads .entry)) ≡ 16) ⌝ }
-{
-    let _n = &names[..];
-    let _l = &lengths[..];
-    let _c = &counts[..];
-    let _t = &threads[..];
 }
 
 // Steps while steps taken are below the ceiling, up to the first answer not 0; an unsound header is refused.

@@ -17,7 +17,7 @@ use Rattle.offset.specs.Offset.{ahead}
 use Rattle.program.specs.Program.{cells}
 use Rattle.program.proofs.Program.{length-cells, cells-from}
 use Rattle.machine.specs.Load.{placed}
-use Rattle.warrior.specs.inner.Accepted.{placedIf}
+use Rattle.warrior.specs.Tested.{placedIf}
 
 -- a body that fits before the end
 placed-before : (core ws : List ℕ) (p : ℕ) → p + length ws ≤ length core → placed core p ws ≡ sets core p ws

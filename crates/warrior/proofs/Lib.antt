@@ -1,3 +1,4 @@
 pub mod Bodies
 pub mod Loading
+pub mod Testing
 pub mod Occurring

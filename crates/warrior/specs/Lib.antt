@@ -1,1 +1,2 @@
 pub mod inner
+pub mod Tested

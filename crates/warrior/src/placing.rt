@@ -1,7 +1,7 @@
 // A warrior's body placed in the core (01, 'Load').
 ghost use mathlib.Core.Path.{_≡_};
 ghost use Rattle.program.specs.Program.{cells};
-ghost use Rattle.warrior.specs.inner.Accepted.{placedIf};
+ghost use Rattle.warrior.specs.Tested.{placedIf};
 use program::write_cells;
 
 // Places a body: in the part of the core that begins at the place, and what is left from cell 0 on.

@@ -4,7 +4,8 @@ use borrow.Author.Needs.{needs}
 use Rattle.load_checks.proofs.refusal.Statement.{statement}
 use Rattle.load_checks.proofs.refusal.Tie as tie
 use mathlib.Core.Path.{_∙_}
-use Rattle.lent.specs.Parts.{machineOf}
+use mathlib.Core.List.{[]}
+use Rattle.lent.specs.Parts.{namesOf, headerOf, machineOf}
 use Rattle.load_checks.proofs.Checking.{unnamed-told}
 
 slice-aggregate-refusal-named : tie.Need-slice-aggregate-refusal-named
@@ -15,8 +16,11 @@ refusal-named-requires c κs = search needs
 
 returns : tie.Need-returns
 returns c =
-    let a = c .before .before .before .before .before .before .before .before .before .args in
-    c .refusal-named .ensures ∙ unnamed-told (machineOf (a .core .now) (a .queue .now) (a .h)) (a .name .now) (a .body .now) (a .place) (c .before .before .before .before .if1 .taken)
+    let c4 = c .before .before .before .before in
+    let c8 = c4 .before .before .before .before in
+    let a = c8 .args in
+    let h = headerOf (a .rules) (a .ring) (namesOf (a .held) (a .names .now) (a .lengths .now)) [] (a .threads .now) in
+    c .refusal-named .ensures ∙ unnamed-told (machineOf [] (a .queue .now) h) (a .name .now) (a .body .now) (a .place) (c4 .if1 .taken)
 
 refusal-named-requires-2 : tie.Need-refusal-named-requires-2
 refusal-named-requires-2 c κs = search needs

@@ -1,11 +1,18 @@
 -- `warrior::load_named` meets its contract.
 -- Assumes nothing.
 use borrow.Author.Needs.{needs}
+use Prim.Native.Nat.{ℕ}
+use Rattle.machine.specs.State.{Machine}
+use Rattle.lent.specs.Parts.{namesOf, parts}
+use Rattle.warrior.proofs.Loading.{refused-is, all-passed, accepted-so, loads}
 use Rattle.warrior.proofs.load_named.Statement.{statement}
 use Rattle.warrior.proofs.load_named.Tie as tie
-use Rattle.lent.specs.Parts.{machineOf}
-use Rattle.sim.proofs.Refusals.{refusing}
-use Rattle.warrior.proofs.Loading.{refused-is, all-passed, accepted-so, loads}
+
+-- the machine of the parts that are lent
+abbrev machine : tie.Start → ℕ → Machine
+machine c steps =
+    let a = c .args in
+    parts (a .core .now) (a .queue .now) (a .rules) (a .ring) steps (namesOf (a .held) (a .names .now) (a .lengths .now)) (a .counts .now) (a .threads .now)
 
 refusal-requires : tie.Need-refusal-requires
 refusal-requires c κs = search needs
@@ -13,54 +20,49 @@ refusal-requires c κs = search needs
 number-requires : tie.Need-number-requires
 number-requires c κs = search needs
 
-refuse-requires : tie.Need-refuse-requires
-refuse-requires c κs = search needs
-
 same-length : tie.Need-same-length
 same-length c = search needs
 
-same-length-2 : tie.Need-same-length-2
-same-length-2 c = search needs
-
 returns : tie.Need-returns
-returns c =
-    let a = c .before .before .before .before .before .before .before .before .before .before .args in
-    let m = machineOf (a .core .now) (a .queue .now) (a .t3) in
-    refusing (a .core .now) (a .queue .now) (c .refuse .ensures)
-    (refused-is m (a .name .now) (a .body .now) (a .place) (c .before .before .before .refusal .ensures) (c .before .before .number .ensures) (a .origin) (c .before .if1 .taken))
+returns c steps =
+    let c1 = c .before in
+    let c2 = c1 .before in
+    let c11 = c2 .before .before .before .before .before .before .before .before .before in
+    let a = c11 .args in
+    refused-is (machine c11 steps) (a .name .now) (a .body .now) (a .place) (c2 .refusal .ensures) (c1 .number .ensures) (a .origin) (c .if1 .taken)
 
 find-requires : tie.Need-find-requires
 find-requires c κs = search needs
 
 accept-requires : tie.Need-accept-requires
-accept-requires c κs =
-    let find = c .before .before .find in
-    let if1 = c .before .before .before .before .before .before .if1 in
-    let number = c .before .before .before .before .before .before .before .number in
-    let refusal = c .before .before .before .before .before .before .before .before .refusal in
-    let asked = c .before .before .before .before .before .before .before .before .before .before .before .before .before .before .before .pre in
-    let a = c .before .before .before .before .before .before .before .before .before .before .before .before .before .before .before .args in
-    let m = machineOf (a .core .now) (a .queue .now) (a .t3) in
-    let e = all-passed m (a .name .now) (a .body .now) (a .place) (refusal .ensures) (number .ensures) (if1 .left) in
-    accepted-so m (a .name .now) (a .body .now) (a .place) e (asked) (find .result) (find .ensures)
+accept-requires c κs steps =
+    let c6 = c .before .before .before .before .before .before in
+    let c9 = c6 .before .before .before in
+    let c10 = c9 .before in
+    let c11 = c10 .before in
+    let c20 = c11 .before .before .before .before .before .before .before .before .before in
+    let a = c20 .args in
+    let m = machine c20 steps in
+    accepted-so m (a .name .now) (a .body .now) (a .place)
+    (all-passed m (a .name .now) (a .body .now) (a .place) (c11 .refusal .ensures) (c10 .number .ensures) (c9 .if1 .left)) (c20 .pre) (c6 .find .result) (c6 .find .ensures)
+
+same-length-2 : tie.Need-same-length-2
+same-length-2 c = search needs
 
 same-length-3 : tie.Need-same-length-3
 same-length-3 c = search needs
 
-same-length-4 : tie.Need-same-length-4
-same-length-4 c = search needs
-
 returns-2 : tie.Need-returns-2
-returns-2 c =
-    let accept = c .before .before .before .before .accept in
-    let if1 = c .before .before .before .before .before .before .before .before .before .before .before .if1 in
-    let number = c .before .before .before .before .before .before .before .before .before .before .before .before .number in
-    let refusal = c .before .before .before .before .before .before .before .before .before .before .before .before .before .refusal in
-    let asked = c .before .before .before .before .before .before .before .before .before .before .before .before .before .before .before .before .before .before .before .before .pre in
-    let a = c .before .before .before .before .before .before .before .before .before .before .before .before .before .before .before .before .before .before .before .before .args in
-    let m = machineOf (a .core .now) (a .queue .now) (a .t3) in
-    let e = all-passed m (a .name .now) (a .body .now) (a .place) (refusal .ensures) (number .ensures) (if1 .left) in
-    loads m (a .name .now) (a .body .now) (a .place) e (asked) (a .origin) (accept .ensures)
+returns-2 c steps =
+    let c4 = c .before .before .before .before in
+    let c14 = c4 .before .before .before .before .before .before .before .before .before .before in
+    let c15 = c14 .before in
+    let c16 = c15 .before in
+    let c25 = c16 .before .before .before .before .before .before .before .before .before in
+    let a = c25 .args in
+    let m = machine c25 steps in
+    loads m (a .name .now) (a .body .now) (a .place)
+    (all-passed m (a .name .now) (a .body .now) (a .place) (c16 .refusal .ensures) (c15 .number .ensures) (c14 .if1 .left)) (c25 .pre) (a .origin) (c4 .accept .ensures steps)
 
 pub load-named-spec : {M : Type 1} → statement M
 load-named-spec =
@@ -68,12 +70,10 @@ load-named-spec =
     (tie.spec
     refusal-requires
     number-requires
-    refuse-requires
     same-length
-    same-length-2
     returns
     find-requires
     accept-requires
+    same-length-2
     same-length-3
-    same-length-4
     returns-2)
