@@ -1,36 +1,35 @@
--- Playing a file: the loads that are left give what all give, the machine that runs is sound, and what came of the file is told.
+-- Playing a file: the machine that runs is sound, and what came of the file is told.
 -- Assumes nothing.
-use Prim.Native.Nat.{ℕ, zero, suc, _+_, _-_, _*_, _≤_, _<_}
+use Prim.Native.Nat.{ℕ, _-_, _≤_, _<_}
 use mathlib.Core.Path.{_≡_, refl, sym, ap, ap₂, subst, _∙_}
 use mathlib.Core.Bool.{Bool, true, false, cond, true≢false}
 use mathlib.Core.List.{List}
 use lib.Dec.{eqb, ltb}
 use lib.ListN.{length, replicate, length-replicate}
-use borrow.Author.Tests.{lt-ltb, le-ltb, eqb-true, eqb-false, eq-eqb, ne-eqb}
-use Rattle.laws.proofs.Lists.{fall, done}
+use borrow.Author.Tests.{lt-ltb, le-ltb, eqb-true, eq-eqb, ne-eqb}
 use Rattle.answer.specs.declared.Answer.{Answer}
-use Rattle.answer.specs.declared.Answer.the-variants.{Done, InvalidCoreSize, Malformed}
+use Rattle.answer.specs.declared.Answer.the-variants.{InvalidCoreSize, Malformed}
 use Rattle.answer.specs.Numbers.{Told, told}
 use Rattle.machine.specs.declared.Ceiling.the-variants.{Unsaid}
 use Rattle.machine.specs.declared.Header.{Header}
 use Rattle.machine.specs.declared.Rules.{Rules}
-use Rattle.machine.specs.State.{ofSize, Machine, Outcome, toldBy}
+use Rattle.machine.specs.State.{ofSize, Machine, toldBy}
 use Rattle.machine.specs.Fresh.{fresh}
-use Rattle.machine.specs.Load.{load}
 use Rattle.machine.specs.Run.{run}
 use Rattle.machine.proofs.Fresh.{fresh-lengths, fresh-tells}
-use Rattle.machine.proofs.SoundMachine.{SoundMachine, fresh-sound, load-keeps, run-keeps-sound}
+use Rattle.machine.proofs.SoundMachine.{SoundMachine, fresh-sound, run-keeps-sound}
 use Rattle.match_format.specs.declared.Fault.{Fault}
 use Rattle.match_format.specs.declared.Fault.the-variants.{Nowhere, At}
 use Rattle.match_format.specs.Faults.{fault}
 use Rattle.match_file.specs.Reading as reading
-use Rattle.match_file.specs.Reading.{zeroed, lineIn, warriorsIn, sizeIn, warriorOf}
-use Rattle.match_file.specs.declared.Line.{Line}
-use Rattle.match_file.proofs.Values.{number-read, name-told, body-told, origin-told, place-told}
-use Rattle.encoding.specs.Bytes.{part}
+use Rattle.match_file.specs.Reading.{zeroed, sizeIn}
+use Rattle.match_file.proofs.Refusal.{not-told}
+use Rattle.match_file.proofs.Values.{number-read}
 use Rattle.lent.specs.Given.{Given, given, givenBy}
-use Rattle.battle.specs.Match.{Loads, loadOf, loads, Result, refused, played, ran, afterLoads, afterFresh, afterReading, result}
-use Rattle.battle.specs.inner.Given.{loadsOf, resultOf}
+use Rattle.match_load.specs.Loading.{loadMatch}
+use Rattle.match_load.proofs.Sound.{match-keeps}
+use Rattle.battle.specs.Match.{Result, refused, played, ran, afterLoads, afterFresh, afterReading, result}
+use Rattle.battle.specs.inner.Given.{resultOf}
 
 -- what `number(answer) != 0` tells
 is-zero : {r n : ℕ} → r ≡ n → r ≡ 0 → eqb n 0 ≡ true
@@ -38,55 +37,6 @@ is-zero {n = n} e z = eq-eqb n 0 (sym e ∙ z)
 
 not-zero : {r n : ℕ} → r ≡ n → (r ≡ 0 → ⊥) → eqb n 0 ≡ false
 not-zero {n = n} e z = ne-eqb n 0 (λ q. z (e ∙ q))
-
--- one turn of the loop over the warriors: what is read of warrior i, and the outcome of its load
-module _ (f : List ℕ) (count i : ℕ) (m : Machine) (below : i < count) {l : Line} (line-is : l ≡ lineIn f i)
-    {name body : List ℕ} (name-is : name ≡ part f (l .«name_start») (l .«name_length»)) (body-is : body ≡ part f (l .«body_start») (12 * l .count)) where
-  load-is : load m name body (l .origin) (l .place) ≡ loadOf f i m
-  load-is =
-      ap₂ (λ (a b : List ℕ). load m a b (l .origin) (l .place)) (name-told f i line-is name-is) (body-told f i line-is body-is)
-      ∙ ap₂ (load m (warriorOf f i .name) (warriorOf f i .body)) (origin-told f i line-is) (place-told f i line-is)
-
-  module _ (answer : Answer) {writes steps : ℕ} (n : Machine) {r : ℕ}
-      (gave : given (told answer) writes steps n ≡ givenBy (load m name body (l .origin) (l .place)))
-      (number-is : r ≡ told answer .number) where
-    told-is : told answer ≡ toldBy (loadOf f i m)
-    told-is = ap (λ (x : Given). x .told) gave ∙ ap toldBy load-is
-
-    machine-is : n ≡ loadOf f i m .machine
-    machine-is = ap (λ (x : Given). x .machine) gave ∙ ap (λ (o : Outcome). o .machine) load-is
-
-    abbrev whole : Bool → Loads
-    whole b = let o = loadOf f i m in cond b (loads f (i + 1) (count - (i + 1)) (o .machine)) (record { told = toldBy o; machine = o .machine })
-
-    opened : loads f i (count - i) m ≡ whole (eqb (told answer .number) 0)
-    opened = ap (λ (k : ℕ). loads f i k m) (fall count i below) ∙ ap (λ (t : Told). whole (eqb (t .number) 0)) (sym told-is)
-
-    pub load-stops : (r ≡ 0 → ⊥) → loadsOf answer n ≡ loads f i (count - i) m
-    load-stops z =
-        ap₂ (λ (t : Told) (k : Machine). record { told = t; machine = k }) told-is machine-is
-        ∙ sym (opened ∙ ap whole (not-zero number-is z))
-
-    pub load-goes-on : r ≡ 0 → loads f (i + 1) (count - (i + 1)) n ≡ loads f i (count - i) m
-    load-goes-on z = ap (loads f (i + 1) (count - (i + 1))) machine-is ∙ sym (opened ∙ ap whole (is-zero number-is z))
-
--- all are loaded
-pub loads-end : (f : List ℕ) (count i : ℕ) (m : Machine) → count ≤ i → loadsOf Done m ≡ loads f i (count - i) m
-loads-end f count i m h = ap (λ (k : ℕ). loads f i k m) (sym (done count i h))
-
--- loads keep a machine sound
-either : (P : Loads → Type 0) (b : Bool) (x y : Loads) → P x → P y → P (cond b x y)
-either P true x y p q = p
-either P false x y p q = q
-
-loads-sound : (f : List ℕ) (k n : ℕ) (m : Machine) → SoundMachine m → SoundMachine (loads f k n m .machine)
-loads-sound f k zero m s = s
-loads-sound f k (suc n) m s =
-    let w = warriorOf f k in
-    let o = loadOf f k m in
-    let next = load-keeps m (w .name) (w .body) (w .origin) (w .place) s in
-    either (λ (l : Loads). SoundMachine (l .machine)) (eqb (o .number) 0) (loads f (k + 1) n (o .machine)) (record { told = toldBy o; machine = o .machine })
-    (loads-sound f (k + 1) n (o .machine) next) next
 
 -- what came of a file: the result, and that a header that was run holds at most 16 names
 abbrev Comes : Bool → Answer → ℕ → ℕ → Header → Result → Type 0
@@ -107,7 +57,7 @@ module _ (f : List ℕ) (rules : Rules) (core queue : List ℕ) (a : Answer) {w 
   fresh-machine = ap (λ (x : Given). x .machine) made
 
   abbrev before-loads : Bool → Told → Machine → Result
-  before-loads b t k = cond b (afterLoads (loads f 0 (warriorsIn f) k)) (refused t)
+  before-loads b t k = cond b (afterLoads (loadMatch k f .outcome)) (refused t)
 
   begins : before-loads (eqb (told a .number) 0) (told a) m ≡ afterFresh f (fresh rules core queue)
   begins = ap₂ (λ (t : Told) (k : Machine). before-loads (eqb (t .number) 0) t k) fresh-told fresh-machine
@@ -115,27 +65,31 @@ module _ (f : List ℕ) (rules : Rules) (core queue : List ℕ) (a : Answer) {w 
   pub stops-at-fresh : (r ≡ 0 → ⊥) → refused (told a) ≡ afterFresh f (fresh rules core queue)
   stops-at-fresh z = sym (ap (λ (b : Bool). before-loads b (told a) m) (not-zero number-is z)) ∙ begins
 
-  module _ (z : r ≡ 0) {count : ℕ} (all : count ≡ warriorsIn f) (b : Answer) (n : Machine) {r′ : ℕ}
-      (loaded : loadsOf b n ≡ loads f 0 count m) (number′-is : r′ ≡ told b .number) where
-    loads-are : loadsOf b n ≡ loads f 0 (warriorsIn f) m
-    loads-are = loaded ∙ ap (λ (k : ℕ). loads f 0 k m) all
+  module _ (z : r ≡ 0) (b : Answer) {v u : ℕ} (n : Machine) {r′ : ℕ}
+      (loaded : given (told b) v u n ≡ givenBy (loadMatch m f .outcome)) (number′-is : r′ ≡ told b .number) where
+    loads-told : told b ≡ toldBy (loadMatch m f .outcome)
+    loads-told = ap (λ (x : Given). x .told) loaded
 
-    abbrev before-run : Bool → Result
-    before-run c = cond c (ran (run Unsaid n)) (refused (told b))
+    loads-machine : n ≡ loadMatch m f .outcome .machine
+    loads-machine = ap (λ (x : Given). x .machine) loaded
 
-    goes-on : before-run (eqb (told b .number) 0) ≡ afterFresh f (fresh rules core queue)
-    goes-on = ap afterLoads loads-are ∙ sym (ap (λ (c : Bool). before-loads c (told a) m) (is-zero number-is z)) ∙ begins
+    abbrev before-run : Bool → Told → Machine → Result
+    before-run c t k = cond c (ran (run Unsaid k)) (refused t)
+
+    goes-on : before-run (eqb (told b .number) 0) (told b) n ≡ afterFresh f (fresh rules core queue)
+    goes-on =
+        ap₂ (λ (t : Told) (k : Machine). before-run (eqb (t .number) 0) t k) loads-told loads-machine
+        ∙ sym (ap (λ (c : Bool). before-loads c (told a) m) (is-zero number-is z))
+        ∙ begins
 
     pub stops-at-loads : (r′ ≡ 0 → ⊥) → refused (told b) ≡ afterFresh f (fresh rules core queue)
-    stops-at-loads y = sym (ap before-run (not-zero number′-is y)) ∙ goes-on
+    stops-at-loads y = sym (ap (λ (c : Bool). before-run c (told b) n) (not-zero number′-is y)) ∙ goes-on
 
     zero-is : fresh rules core queue .number ≡ 0
     zero-is = sym (ap (λ (t : Told). t .number) fresh-told) ∙ sym number-is ∙ z
 
     sound : SoundMachine n
-    sound =
-        subst SoundMachine (sym (ap (λ (l : Loads). l .machine) loads-are))
-        (loads-sound f 0 (warriorsIn f) m (subst SoundMachine (sym fresh-machine) (fresh-sound rules core queue zero-is)))
+    sound = subst SoundMachine (sym loads-machine) (match-keeps m f (subst SoundMachine (sym fresh-machine) (fresh-sound rules core queue zero-is)))
 
     module _ (answer : Answer) (writes steps : ℕ) (k : Machine) (gave : given (told answer) writes steps k ≡ givenBy (run Unsaid n)) where
       few : k .header .names .held ≤ 16
@@ -145,12 +99,12 @@ module _ (f : List ℕ) (rules : Rules) (core queue : List ℕ) (a : Answer) {w 
       is-ran = ap (λ (x : Given). played (x .told .number) (x .steps) (x .writes) (x .machine .header)) gave
 
       pub runs : r′ ≡ 0 → Comes true answer steps writes (k .header) (afterFresh f (fresh rules core queue))
-      runs y = (is-ran ∙ sym (ap before-run (is-zero number′-is y)) ∙ goes-on, λ t. few)
+      runs y = (is-ran ∙ sym (ap (λ (c : Bool). before-run c (told b) n) (is-zero number′-is y)) ∙ goes-on, λ t. few)
 
 -- fresh looks at the lengths of what it is lent
 module _ (f : List ℕ) (rules : Rules) (core queue core′ queue′ : List ℕ) (a : length core′ ≡ length core) (b : length queue′ ≡ length queue) where
   abbrev after : Machine → Result
-  after m = afterLoads (loads f 0 (warriorsIn f) m)
+  after m = afterLoads (loadMatch m f .outcome)
 
   fresh-same : afterFresh f (fresh rules core′ queue′) ≡ afterFresh f (fresh rules core queue)
   fresh-same =
@@ -182,14 +136,10 @@ module _ (f : List ℕ) where
         go (At p) n = refl
 
     module _ (z : r ≡ 0) where
-      pub reads : fault f ≡ Nowhere
-      reads = go (fault f) (sym (ap (λ (t : Told). t .number) told-is) ∙ sym number-is ∙ z)
-        where
-          go : (x : Fault) → reading.toldBy x .number ≡ 0 → x ≡ Nowhere
-          go Nowhere e = refl
-          go (At p) e = absurd (eqb-false 13 0 refl e)
+      reads : fault f ≡ Nowhere
+      reads = not-told (fault f) (sym (ap (λ (t : Told). t .number) told-is) ∙ sym number-is ∙ z)
 
-      pub is-read : {n k : ℕ} → n ≡ zeroed (fault f) k → n ≡ k
+      is-read : {n k : ℕ} → n ≡ zeroed (fault f) k → n ≡ k
       is-read d = number-read reads d
 
       module _ {size : ℕ} (size-is : size ≡ zeroed (fault f) (sizeIn f)) where

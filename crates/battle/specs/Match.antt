@@ -1,6 +1,6 @@
 -- What comes of a match file that is played (01, 'Match file', `play`).
 -- Believed. Assumes nothing.
-use Prim.Native.Nat.{ℕ, zero, suc, _+_}
+use Prim.Native.Nat.{ℕ}
 use mathlib.Core.Bool.{cond}
 use mathlib.Core.List.{List}
 use lib.Dec.{eqb, ltb}
@@ -8,30 +8,14 @@ use lib.ListN.{length, replicate}
 use Rattle.answer.specs.Numbers.{Told, gives}
 use Rattle.machine.specs.declared.Header.{Header}
 use Rattle.machine.specs.declared.Ceiling.the-variants.{Unsaid}
-use Rattle.machine.specs.State.{ofSize, Machine, Outcome, toldBy}
+use Rattle.machine.specs.State.{ofSize, Outcome, toldBy}
 use Rattle.machine.specs.Fresh.{fresh}
-use Rattle.machine.specs.Load.{load}
 use Rattle.machine.specs.Run.{run}
 use Rattle.match_format.specs.declared.Fault.{Fault}
 use Rattle.match_format.specs.declared.Fault.the-variants.{Nowhere, At}
 use Rattle.match_format.specs.Faults.{fault}
-use Rattle.match_file.specs.Reading.{warriorsIn, sizeIn, warriorOf}
-
--- the answer to a list of loads, and the machine that they leave
-pub record Loads : Type 0 where
-  pub told : Told
-  pub machine : Machine
-
--- the load of warrior k of a file
-abbrev pub loadOf : List ℕ → ℕ → Machine → Outcome
-loadOf f k m = let w = warriorOf f k in load m (w .name) (w .body) (w .origin) (w .place)
-
--- loads all, in file order: the n warriors of a file from warrior k on, up to the first refused
-abbrev pub loads : List ℕ → ℕ → ℕ → Machine → Loads
-loads f k zero m = record { told = gives 0 0; machine = m }
-loads f k (suc n) m =
-    let o = loadOf f k m in
-    cond (eqb (o .number) 0) (loads f (k + 1) n (o .machine)) (record { told = toldBy o; machine = o .machine })
+use Rattle.match_file.specs.Reading.{sizeIn}
+use Rattle.match_load.specs.Loading.{loadMatch}
 
 -- refused earlier, with the answer; or played: answer, steps and writes of the run, and the header that it left
 pub data Result : Type 0 where
@@ -42,12 +26,12 @@ pub data Result : Type 0 where
 abbrev pub ran : Outcome → Result
 ran o = played (o .number) (o .steps) (o .writes) (o .machine .header)
 
-abbrev pub afterLoads : Loads → Result
-afterLoads l = cond (eqb (l .told .number) 0) (ran (run Unsaid (l .machine))) (refused (l .told))
+abbrev pub afterLoads : Outcome → Result
+afterLoads o = cond (eqb (o .number) 0) (ran (run Unsaid (o .machine))) (refused (toldBy o))
 
--- M cells of core memory and 2,000 queue entries
+-- loads all, in file order, into M cells of core memory and 2,000 queue entries
 abbrev pub afterFresh : List ℕ → Outcome → Result
-afterFresh f o = cond (eqb (o .number) 0) (afterLoads (loads f 0 (warriorsIn f) (o .machine))) (refused (toldBy o))
+afterFresh f o = cond (eqb (o .number) 0) (afterLoads (loadMatch (o .machine) f .outcome)) (refused (toldBy o))
 
 -- M to 8,000, else 1
 abbrev pub afterReading : List ℕ → Fault → Result

@@ -3,30 +3,18 @@ ghost use mathlib.Core.Path.{_≡_};
 ghost use mathlib.Core.Bool.{true, false};
 ghost use Prim.Native.Nat.{_≤_};
 ghost use lib.ListN.{length};
-ghost use Rattle.match_format.specs.declared.Fault.the-variants.{Nowhere};
-ghost use Rattle.match_format.specs.Faults.{fault};
-ghost use Rattle.match_file.specs.Reading.{warriorsIn};
 ghost use Rattle.machine.specs.Fresh as begins;
-ghost use Rattle.lent.specs.Parts.{machineOf};
 ghost use Rattle.battle.specs.Match as spec;
-ghost use Rattle.battle.specs.inner.Given.{loadsOf, resultOf};
+ghost use Rattle.battle.specs.inner.Given.{resultOf};
 use answer::Answer;
 use answer::number;
 use cycle::run;
-use encoding::part;
 use machine::Ceiling;
 use machine::Header;
 use machine::Rules;
-use match_file::line_in;
 use match_file::read;
+use match_load::load_match;
 use sim::fresh;
-use warrior::load;
-
-// The answer to a list of loads, and the header that they leave.
-struct Loaded {
-    answer: Answer,
-    header: Header,
-}
 
 // What comes of a file: whether it was run, the answer, the steps and writes of the run, and the header.
 pub(crate) struct Played {
@@ -35,38 +23,6 @@ pub(crate) struct Played {
     pub steps: u64,
     pub writes: u64,
     pub header: Header,
-}
-
-// Loads that many warriors of a file, up to the first refused.
-fn load_all(file: &[u8], count: usize, core: &mut [u64], queue: &mut [u64], h: Header) -> Loaded
-    requires { ⌜ count ≤ 16 ⌝ }
-    ensures { λ r. ⌜ loadsOf (r .answer) (machineOf (now (core .exit)) (now (queue .exit)) (r .header))
-        ≡ spec.loads (now (file .entry)) 0 count (machineOf (now (core .entry)) (now (queue .entry)) h) ⌝ }
-{
-    let mut header = h;
-    let mut i: usize = 0;
-    while i < count {
-        let l = line_in(file, i as u8);
-        let o = load(
-            core,
-            queue,
-            header,
-            part(file, l.name_start, l.name_length),
-            part(file, l.body_start, 12 * l.count as usize),
-            l.origin,
-            l.place,
-        );
-        header = o.header;
-        let answer = o.answer;
-        if number(answer) != 0 {
-            return Loaded { answer, header };
-        }
-        i = i + 1;
-    }
-    Loaded {
-        answer: Answer::Done,
-        header,
-    }
 }
 
 // Refused before the run.
@@ -82,15 +38,8 @@ fn refuse(answer: Answer, header: Header) -> Played
     }
 }
 
-// The warriors of a file that reads are loaded into a core of its size, and run with no ceiling given.
-fn play_loaded(
-    file: &[u8],
-    rules: Rules,
-    count: usize,
-    core: &mut [u64],
-    queue: &mut [u64],
-) -> Played
-    requires { ⌜ (fault (now file) ≡ Nowhere) × (count ≡ warriorsIn (now file)) ⌝ }
+// The warriors of a file are loaded into a core of its size, and run with no ceiling given.
+fn play_loaded(file: &[u8], rules: Rules, core: &mut [u64], queue: &mut [u64]) -> Played
     ensures { λ r. ⌜ (resultOf (r .ran) (r .answer) (r .steps) (r .writes) (r .header)
         ≡ spec.afterFresh (now (file .entry)) (begins.fresh rules (now (core .entry)) (now (queue .entry))))
         × (r .ran ≡ true → r .header .names .held ≤ 16) ⌝ }
@@ -101,9 +50,10 @@ fn play_loaded(
     if number(first) != 0 {
         return refuse(first, blank);
     }
-    let l = load_all(file, count, core, queue, blank);
-    let h = l.header;
-    let second = l.answer;
+    let l = load_match(core, queue, blank, file);
+    let loaded = l.outcome;
+    let h = loaded.header;
+    let second = loaded.answer;
     if number(second) != 0 {
         return refuse(second, h);
     }
@@ -138,5 +88,5 @@ pub(crate) fn play_file(file: &[u8], core: &mut [u64], queue: &mut [u64], blank:
     let cells = c.size as usize;
     let lent = &mut core[..cells];
     let rules = Rules { size: c.size };
-    play_loaded(file, rules, c.warriors, lent, queue)
+    play_loaded(file, rules, lent, queue)
 }

@@ -1,2 +1,3 @@
 pub mod Warriors
 pub mod Values
+pub mod Refusal

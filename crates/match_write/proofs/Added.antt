@@ -13,10 +13,11 @@ use Rattle.match_format.specs.declared.Fault.the-variants.{Nowhere, At}
 use Rattle.match_format.specs.Format.{Warrior, file}
 use Rattle.match_format.specs.Faults.{linesFault, fault}
 use Rattle.match_file.specs.Reading.{toldBy, zeroed, warriorsIn, sizeIn, warriorsAt, warriorsOf}
+use Rattle.match_file.specs.Refusal.{malformed}
 use Rattle.match_format.proofs.Whole.{head-ok}
 use Rattle.match_file.proofs.Values.{warrior-reads}
 use Rattle.write_checks.specs.Refusal.{Written, given, settle}
-use Rattle.match_write.specs.Writing.{malformed, checks, write, writeAdded, Earlier}
+use Rattle.match_write.specs.Writing.{checks, write, writeAdded, Earlier}
 
 -- none before the first warrior
 pub none : Earlier [] 0 0

@@ -2,23 +2,17 @@
 -- Believed. Assumes nothing.
 use Prim.Native.Nat.{ℕ, _<_}
 use mathlib.Core.Path.{_≡_}
-use mathlib.Core.Bool.{true, false}
 use mathlib.Core.List.{List, [], _∷_, _++_}
 use lib.ListN.{length}
-use Rattle.machine.specs.State.{Check, check, first}
-use Rattle.match_format.specs.declared.Fault.{Fault}
-use Rattle.match_format.specs.declared.Fault.the-variants.{Nowhere, At}
+use Rattle.machine.specs.State.{Check, first}
+use Rattle.match_format.specs.declared.Fault.the-variants.{Nowhere}
 use Rattle.match_format.specs.Format.{Warrior, file}
 use Rattle.match_format.specs.Faults.{linesFault, fault, faultAt}
 use Rattle.match_file.specs.Reading.{sizeIn, warriorsOf}
+use Rattle.match_file.specs.Refusal.{malformed}
 use Rattle.write_checks.specs.Refusal.{Written, settle, writeChecks}
 
--- order of writing: 13, 1, 3, 4, 5, 6
-abbrev pub malformed : Fault → Check
-malformed Nowhere = check false 13
-malformed (At p) = record { applies = true; number = 13; value = p }
-
--- M and the new warrior w, beside earlier warriors ws, in an output of that many bytes
+-- order of writing: 13, 1, 3, 4, 5, 6; of M and the new warrior w, beside earlier warriors ws, in an output of that many bytes
 abbrev pub checks : ℕ → List Warrior → Warrior → ℕ → List Check
 checks size ws w room = writeChecks size (length ws) (w .name) (w .body) (w .place) (length (file size (ws ++ (w ∷ [])))) room
 

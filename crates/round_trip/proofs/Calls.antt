@@ -14,8 +14,10 @@ use Rattle.match_format.specs.declared.Fault.the-variants.{Nowhere, At}
 use Rattle.match_format.specs.Format.{Warrior, file}
 use Rattle.match_format.specs.Faults.{fault}
 use Rattle.match_file.specs.Reading.{sizeIn, warriorsOf}
+use Rattle.match_file.specs.Refusal.{malformed}
+use Rattle.match_file.proofs.Refusal.{thirteen}
 use Rattle.write_checks.specs.Refusal.{settle}
-use Rattle.match_write.specs.Writing.{malformed, checks, write, writeFirst, writeAdded}
+use Rattle.match_write.specs.Writing.{checks, write, writeFirst, writeAdded}
 use Rattle.round_trip.specs.Calls.{made, Done}
 use Rattle.round_trip.proofs.Accept.{accepted-of, refusals}
 
@@ -30,11 +32,6 @@ module _ (size : ℕ) (w : Warrior) (output : List ℕ) where
   pub first-made : first (checks size [] w (length output)) ≡ accepted → made (writeFirst size w output) ≡ file size (w ∷ [])
   unfolding write
   first-made e = settled (first (checks size [] w (length output))) (file size (w ∷ [])) output e
-
--- 13, or no fault
-thirteen : (x : Fault) → malformed x .number ≡ 13
-thirteen Nowhere = refl
-thirteen (At p) = refl
 
 no-fault : (x : Fault) → malformed x .applies ≡ false → x ≡ Nowhere
 no-fault Nowhere e = refl

@@ -15,6 +15,7 @@ use machine::Rules;
 
 mod by_value;
 pub mod file;
+pub mod load_match;
 
 // 01's number, its value, and the writes and steps of a call.
 #[repr(C)]

@@ -16,6 +16,7 @@ use Rattle.machine.specs.Fresh.{fresh}
 use Rattle.machine.specs.Load.{loaded, load}
 use Rattle.match_format.specs.Format.{warrior, line, file}
 use Rattle.match_format.specs.Faults.{lineFault, linesFault, fault}
+use Rattle.match_load.specs.Loading.{loadMatch}
 use Rattle.battle.specs.Match.{result}
 use Rattle.printing.specs.Text.{decimal, lineOf}
 use Rattle.battle.specs.Text.{printed}
@@ -29,7 +30,7 @@ abbrev alone : ℕ → ℕ → ℕ → List ℕ
 alone size opcode place = file size (warrior [] (opcode ∷ 4 ∷ 1 ∷ 1 ∷ replicate 8 0) 0 place ∷ [])
 
 unfoldable pub games : List Row
-unfolding soundWord lawful lowestFault cells register numbered pop push started soundHeader soundEntry fresh loaded load operand effectOf effect coreAfter stepWritten counted executed step run line file lineFault linesFault fault result decimal lineOf printed
+unfolding soundWord lawful lowestFault cells register numbered pop push started soundHeader soundEntry fresh loaded load operand effectOf effect coreAfter stepWritten counted executed step run line file lineFault linesFault fault loadMatch result decimal lineOf printed
 games =
     -- M 8 and one unnamed DAT.F $0,$0: `11 1 0`, then `Warrior0 0`
     record {

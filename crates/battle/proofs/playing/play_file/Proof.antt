@@ -7,7 +7,7 @@ use mathlib.Core.Path.{sym, _∙_}
 use lib.ListN.{take}
 use lib.Seq.{length-take-le}
 use native.Mathlib.Omega.{arith}
-use Rattle.battle.proofs.Plays.{refusal-comes, too-long, malformed, reads, is-read, too-big, fits}
+use Rattle.battle.proofs.Plays.{refusal-comes, too-long, malformed, too-big, fits}
 
 refuse-requires : tie.Need-refuse-requires
 refuse-requires c κs = search needs
@@ -59,16 +59,7 @@ slice-aggregate-lent : tie.Need-slice-aggregate-lent
 slice-aggregate-lent c = sym (length-take-le (c .before .before .before .before .before .before .read .result .size) (c .before .before .before .before .before .before .before .before .before .before .before .args .core .now) (omega (arith, c .before .before .if3 .left, c .before .before .before .before .before .before .before .before .before .before .before .pre .0)))
 
 play-loaded-requires : tie.Need-play-loaded-requires
-play-loaded-requires c κs =
-    let if2 = c .before .before .before .before .before .if2 in
-    let number = c .before .before .before .before .before .before .number in
-    let read = c .before .before .before .before .before .before .before .read in
-    let if1 = c .before .before .before .before .before .before .before .before .if1 in
-    let start = c .before .before .before .before .before .before .before .before .before .before .before .before in (
-      reads (start .args .file .now) (omega (arith, if1 .left)) (read .result .answer) (read .ensures .0) (number .ensures) (if2 .left),
-      is-read
-          (start .args .file .now) (omega (arith, if1 .left)) (read .result .answer) (read .ensures .0) (number .ensures) (if2 .left) (read .ensures .1),
-    )
+play-loaded-requires c κs = search needs
 
 same-length : tie.Need-same-length
 same-length c = search needs
