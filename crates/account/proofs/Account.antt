@@ -32,8 +32,10 @@ use Rattle.machine.proofs.ByName.{Stepped, stepped, Begun, begun}
 use Rattle.machine.proofs.SoundMachine.{SoundMachine, sound-ready, step-keeps, load-keeps, fresh-sound}
 use Rattle.account.specs.Calls as Calls
 use Rattle.account.specs.Calls.{Call, Load, Step, Run, outcome, left, reported, Event, logStep, logSteps, logRun, logCall, logged}
+use Rattle.account.specs.Lists.{spread, SameCalls}
 use Rattle.account.specs.Account.{Account, EveryAccount, loadOf, childOf, endingOf, sinceEnding, differing}
 use Rattle.account.proofs.Cells.{step-cells, placed-cells, fresh-cells}
+use Rattle.account.proofs.Spread.{spreads}
 
 -- what every call keeps
 record Invariant (m : Machine) (w : ℕ) (log : List Event) : Type 0 where
@@ -208,10 +210,10 @@ call-kept (Load name body origin place) m w log i = load-kept name body origin p
 call-kept Step m w log i = step-kept m w log i
 call-kept (Run c) m w log i = run-kept c m w log i
 
-calls-kept : (cs : List Call) (m : Machine) (w : ℕ) (log : List Event) → Invariant m w log → Invariant (left cs m) (w + reported cs m) (logged cs m log)
+calls-kept : (cs : List Call) (m : Machine) (w : ℕ) (log : List Event) → Invariant m w log → Invariant (left outcome cs m) (w + reported outcome cs m) (logged cs m log)
 calls-kept [] m w log i = after-refusal i
 calls-kept (c ∷ cs) m w log i =
-    rw (← add-assoc w (outcome c m .writes) (reported cs (outcome c m .machine)))
+    rw (← add-assoc w (outcome c m .writes) (reported outcome cs (outcome c m .machine)))
     (calls-kept cs (outcome c m .machine) (w + outcome c m .writes) (logCall c m log) (call-kept c m w log i))
 
 -- the machine just made
@@ -233,9 +235,15 @@ fresh-account rules core queue =
 -- DEMAND 3
 pub account : EveryAccount
 account rules core queue ok ownCore ownQueue a b calls =
-    rw (fresh-lengths rules core queue ownCore ownQueue a b ok)
-    (rw (zero-add _) at (calls-kept calls (fresh rules core queue .machine) 0 [] start .account))
+    rw (fresh-lengths rules core queue ownCore ownQueue a b ok, ← same .machine, ← same .writes, ← same .log [])
+    (rw (zero-add _) at (calls-kept (spread calls m) m 0 [] start .account))
   where
-    start : Invariant (fresh rules core queue .machine) 0 []
+    m : Machine
+    m = fresh rules core queue .machine
+
+    same : SameCalls calls m
+    same = spreads calls m
+
+    start : Invariant m 0 []
     start =
         record { sound = fresh-sound rules core queue ok; account = rw (fresh-accepted rules core queue ok .1) (fresh-account rules core queue) }

@@ -1,4 +1,5 @@
 pub mod Cells
+pub mod Spread
 pub mod Account
 pub mod NeverNine
 pub mod Endings

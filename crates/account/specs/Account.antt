@@ -13,7 +13,8 @@ use Rattle.machine.specs.State.{Machine}
 use Rattle.machine.specs.Names.{isNew, countOf}
 use Rattle.machine.specs.Queue.{entriesOf}
 use Rattle.machine.specs.Fresh.{fresh}
-use Rattle.account.specs.Calls.{Call, left, reported, Event, loaded, executed, logged}
+use Rattle.account.specs.Calls.{left, reported, Event, loaded, executed}
+use Rattle.account.specs.Lists.{Listed, outcomeOf, loggedOf}
 
 -- an accepted load of n
 abbrev pub loadOf : List ℕ → Event → Bool
@@ -85,6 +86,6 @@ abbrev pub EveryAccount : Type 0
 EveryAccount =
     (rules : Rules) (core queue : List ℕ) → fresh rules core queue .number ≡ 0
     → (ownCore ownQueue : List ℕ) → length ownCore ≡ length core → length ownQueue ≡ length queue
-    → (calls : List Call)
-    → Account (left calls (fresh rules core queue .machine)) (reported calls (fresh rules core queue .machine))
-    (logged calls (fresh rules ownCore ownQueue .machine) [])
+    → (calls : List Listed)
+    → Account (left outcomeOf calls (fresh rules core queue .machine)) (reported outcomeOf calls (fresh rules core queue .machine))
+    (loggedOf calls (fresh rules ownCore ownQueue .machine) [])

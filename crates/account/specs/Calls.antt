@@ -1,4 +1,4 @@
--- Lists of calls: what the program does with them, and the log that 01's machine keeps (the mission, demand 3; 01, 'One step', last paragraph).
+-- Single calls: what the program does with a list of them, and the log that 01's machine keeps (the mission, demand 3; 01, 'One step', last paragraph).
 -- Believed. Assumes nothing.
 use Prim.Native.Nat.{ℕ, zero, suc, _+_, _-_}
 use mathlib.Core.Bool.{cond}
@@ -14,7 +14,7 @@ use Rattle.machine.specs.Load.{load}
 use Rattle.machine.specs.Step.{step, executes}
 use Rattle.machine.specs.Run.{ceilingOf, run}
 
--- a call with its arguments
+-- a single call with its arguments
 pub data Call : Type 0 where
   Load : (name body : List ℕ) (origin place : ℕ) → Call
   Step : Call
@@ -25,15 +25,15 @@ outcome (Load name body origin place) m = load m name body origin place
 outcome Step m = step m
 outcome (Run ceiling) m = run ceiling m
 
--- THE PROGRAM. Each call gets the record as the one before left it
-abbrev pub left : List Call → Machine → Machine
-left [] m = m
-left (c ∷ cs) m = left cs (outcome c m .machine)
+-- THE PROGRAM, over calls of any kind whose outcomes are told. Each call gets the record as the one before left it
+abbrev pub left : {C : Type 0} → (C → Machine → Outcome) → List C → Machine → Machine
+left does [] m = m
+left does (c ∷ cs) m = left does cs (does c m .machine)
 
 -- the writes reported by the list's calls
-abbrev pub reported : List Call → Machine → ℕ
-reported [] m = 0
-reported (c ∷ cs) m = outcome c m .writes + reported cs (outcome c m .machine)
+abbrev pub reported : {C : Type 0} → (C → Machine → Outcome) → List C → Machine → ℕ
+reported does [] m = 0
+reported does (c ∷ cs) m = does c m .writes + reported does cs (does c m .machine)
 
 -- 01'S MACHINE. Its log has a load that was accepted: name, instructions, writes; and an instruction that was executed:
 -- the popped entry's name, pushes, writes. The newest stands first

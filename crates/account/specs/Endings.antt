@@ -15,7 +15,8 @@ use Rattle.machine.specs.Queue.{nameOf, entriesOf, front}
 use Rattle.machine.specs.Fresh.{fresh}
 use Rattle.machine.specs.Step.{step, executes}
 use Rattle.machine.specs.Run.{read}
-use Rattle.account.specs.Calls.{Call, outcome, left, Event}
+use Rattle.account.specs.Calls.{left, Event}
+use Rattle.account.specs.Lists.{Listed, outcomeOf}
 use Rattle.account.specs.Account.{Account, loadOf, childOf, endingOf, sinceEnding}
 
 -- where the account holds of a record and of what 01's machine tells: a name has no entry left exactly when it has as many endings as accepted loads and children;
@@ -37,20 +38,20 @@ RunsOn =
     → tally (endingOf n) log < tally (loadOf n) log + tally (childOf n) log → (1 ≤ entriesOf m n) × (countOf (m .header) n ≡ entriesOf m n)
 
 -- after every list of calls from a machine just made
-abbrev pub reached : Rules → List ℕ → List ℕ → List Call → Machine
-reached rules core queue calls = left calls (fresh rules core queue .machine)
+abbrev pub reached : Rules → List ℕ → List ℕ → List Listed → Machine
+reached rules core queue calls = left outcomeOf calls (fresh rules core queue .machine)
 
 -- an ending takes one entry from its name, and none from another
 abbrev pub EndedOne : Type 0
 EndedOne =
-    (rules : Rules) (core queue : List ℕ) → fresh rules core queue .number ≡ 0 → (calls : List Call)
+    (rules : Rules) (core queue : List ℕ) → fresh rules core queue .number ≡ 0 → (calls : List Listed)
     → let m = reached rules core queue calls in executes (step m .number) ≡ true → step m .pushes ≡ 0
     → (n : List ℕ) → entriesOf (step m .machine) n + oneIf (same (nameOf m (front m)) n) ≡ entriesOf m n
 
 -- the answer tells whether the name has entries left, not whether one ended: 0 where it has some, 11 or 12 where it has none
 abbrev pub AnswerSays : Type 0
 AnswerSays =
-    (rules : Rules) (core queue : List ℕ) → fresh rules core queue .number ≡ 0 → (calls : List Call)
+    (rules : Rules) (core queue : List ℕ) → fresh rules core queue .number ≡ 0 → (calls : List Listed)
     → let m = reached rules core queue calls in executes (step m .number) ≡ true
     → eqb (step m .number) 0 ≡ not (eqb (entriesOf (step m .machine) (nameOf m (front m))) 0)
 
@@ -58,9 +59,9 @@ AnswerSays =
 abbrev pub NeverNine : Type 0
 NeverNine =
     (rules : Rules) (core queue : List ℕ) → fresh rules core queue .number ≡ 0
-    → (calls : List Call) (c : Call) → outcome c (reached rules core queue calls) .number ≡ 9 → ⊥
+    → (calls : List Listed) (c : Listed) → outcomeOf c (reached rules core queue calls) .number ≡ 9 → ⊥
 
 abbrev pub ReadingDone : Type 0
 ReadingDone =
     (rules : Rules) (core queue : List ℕ) → fresh rules core queue .number ≡ 0
-    → (calls : List Call) (z : ℤ) → read (reached rules core queue calls) z .number ≡ 0
+    → (calls : List Listed) (z : ℤ) → read (reached rules core queue calls) z .number ≡ 0

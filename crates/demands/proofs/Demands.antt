@@ -12,8 +12,10 @@ use Rattle.machine.specs.Fresh.{fresh}
 use Rattle.machine.specs.Step.{executes}
 use Rattle.machine.proofs.Battles.{battles-prove}
 use Rattle.lent.specs.Given.{Given}
-use Rattle.account.specs.Calls.{Step, Event, left, reported, logged}
+use Rattle.account.specs.Calls.{Step, Event, left, reported}
+use Rattle.account.specs.Lists.{outcomeOf, spread, loggedOf}
 use Rattle.account.specs.Account.{Account}
+use Rattle.account.proofs.Spread.{spreads}
 use Rattle.account.proofs.Account.{account}
 use Rattle.account.proofs.Endings.{no-entry-left, no-entry-left-says, runs-on, ended-one, answer-says}
 use Rattle.account.proofs.NeverNine.{never-nine, reading-done}
@@ -30,6 +32,7 @@ use Rattle.demands.specs.Demands.{Demand1, Demand2, Demand3, Facts}
 use Rattle.demands.proofs.Contracts.{code-keeps}
 use Rattle.demands.proofs.Refusals.{fresh-refuses, exported-fresh-refuses, load-refuses, step-refuses, cell-refuses, default-refuses}
 use Rattle.demands.proofs.Runs.{run-refuses}
+use Rattle.demands.proofs.Matches.{match-refuses}
 use Rattle.demands.proofs.Files.{file-refuses, line-refuses, first-refuses, added-refuses}
 use Rattle.demands.proofs.Lists.{just-made, made-follows, made-agrees}
 
@@ -41,6 +44,7 @@ demand-1 =
       load = load-refuses;
       step = step-refuses;
       run = run-refuses;
+      load-match = match-refuses;
       get = λ m z told cell e. cell-refuses m z (told .number) cell (ap (λ (t : Told). t .number) (e .0), e .1);
       get-exported = cell-refuses;
       default = default-refuses;
@@ -56,7 +60,7 @@ draft-made m g e t d =
     subst (λ (x : Given). executes (x .told .number) ≡ true → Drafted m (x .machine)) (sym e) (λ t. agreement m t d) t
 
 rust-made : (rules : Rules) (core queue : List ℕ) (m : Machine) → JustMade rules core queue m
-    → (c : Core) × (new (rules .size) ≡ some c) × ((made : List Reply) → Made made m → Domain (calls made) m → MadeAgrees made m c)
+    → (c : Core) × (new (rules .size) ≡ some c) × ((made : List Reply) → Made made m → Domain (spread (calls made) m) m → MadeAgrees made m c)
 rust-made rules core queue m started =
     let s = just-made rules core queue m started in
     let r = refinement rules core queue (s .0) in (
@@ -64,7 +68,8 @@ rust-made rules core queue m started =
       r .1,
       λ made h d.
           made-agrees made m (r .0) h
-          (subst (λ (n : Machine). Agrees (calls made) n (r .0)) (sym (s .1)) (r .2 (calls made) (subst (Domain (calls made)) (s .1) d))),
+          (subst (λ (n : Machine). Agrees (spread (calls made) n) n (r .0)) (sym (s .1))
+          (r .2 (calls made) (subst (λ (n : Machine). Domain (spread (calls made) n) n) (s .1) d))),
     )
 
 pub demand-2 : Demand2
@@ -87,16 +92,17 @@ demand-3 rules core queue m started ownCore ownQueue a b made h =
     let s = just-made rules core queue m started in
     let f = made-follows made m h in
     subst (λ (w : ℕ). Account (last made m) w log) (sym (f .1))
-    (subst (λ (n : Machine). Account n (reported (calls made) m) log) (sym (f .0))
-    (subst (λ (n : Machine). Account (left (calls made) n) (reported (calls made) n) log) (sym (s .1))
+    (subst (λ (n : Machine). Account n (reported outcomeOf (calls made) m) log) (sym (f .0))
+    (subst (λ (n : Machine). Account (left outcomeOf (calls made) n) (reported outcomeOf (calls made) n) log) (sym (s .1))
     (account rules core queue (s .0) ownCore ownQueue a b (calls made))))
   where
     log : List Event
-    log = logged (calls made) (fresh rules ownCore ownQueue .machine) []
+    log = loggedOf (calls made) (fresh rules ownCore ownQueue .machine) []
 
 pub facts : Facts
 facts =
     record {
+      spread = spreads;
       no-entry-left = no-entry-left;
       no-entry-left-says = no-entry-left-says;
       runs-on = runs-on;

@@ -2,7 +2,7 @@
 -- Assumes nothing.
 use Prim.Native.Nat.{ℕ}
 use mathlib.Core.Path.{_≡_, refl, sym, ap, subst, _∙_}
-use mathlib.Core.Bool.{Bool, true, false, false≢true}
+use mathlib.Core.Bool.{Bool, false, false≢true}
 use mathlib.Core.List.{List, [], _∷_}
 use lib.Dec.{eqb, ltb}
 use lib.ListN.{length}
@@ -17,8 +17,10 @@ use Rattle.match_format.specs.Format.{Warrior, file}
 use Rattle.match_format.specs.Faults.{unless, _else_, fault, faultAt}
 use Rattle.match_format.proofs.Chains.{else-left, else-right, unless-true}
 use Rattle.match_file.specs.Reading.{toldBy, zeroed, sizeIn, warriorsIn, warriorsOf}
+use Rattle.match_file.specs.Refusal.{malformed}
+use Rattle.match_file.proofs.Refusal.{thirteen}
 use Rattle.write_checks.specs.Refusal.{Written, settle}
-use Rattle.match_write.specs.Writing.{malformed, checks, write, writeAdded}
+use Rattle.match_write.specs.Writing.{checks, write, writeAdded}
 use Rattle.round_trip.proofs.RoundTrip.{exact}
 use Rattle.demands.specs.Promise.{FilePromise, FirstPromise, AddedPromise}
 use Rattle.demands.specs.Refusals.{FileRefused, LineRefused, WriteRefused}
@@ -71,11 +73,7 @@ pub added-refuses : (f : List ℕ) (w : Warrior) (output : List ℕ) (g : Writte
 unfolding writeAdded
 added-refuses f w output g e =
     subst (WriteRefused rows output) (sym e)
-    (settled rows _ output (number-of (λ n. eqb n 0 ≡ false) rows (thirteen (fault f) and refl and refl and refl and refl and refl and tt)))
+    (settled rows _ output (number-of (λ n. eqb n 0 ≡ false) rows (ap (λ (n : ℕ). eqb n 0) (thirteen (fault f)) and refl and refl and refl and refl and refl and tt)))
   where
     rows : List Check
     rows = malformed (fault f) ∷ checks (sizeIn f) (warriorsOf f) w (length output)
-
-    thirteen : (x : Fault) → eqb (malformed x .number) 0 ≡ false
-    thirteen Nowhere = refl
-    thirteen (At p) = refl

@@ -39,6 +39,8 @@ use Rattle.match_file.proofs.name as name
 use Rattle.match_file.proofs.name.Symbol as name-code
 use Rattle.match_file.proofs.body as body
 use Rattle.match_file.proofs.body.Symbol as body-code
+use Rattle.match_load.proofs.load_match as load-match
+use Rattle.match_load.proofs.load_match.Symbol as load-match-code
 use Rattle.match_write.proofs.write_first as write-first
 use Rattle.match_write.proofs.write_first.Symbol as write-first-code
 use Rattle.match_write.proofs.write_added as write-added
@@ -53,11 +55,13 @@ use Rattle.sumacadze.proofs.sumacadze_step as sumacadze-step
 use Rattle.sumacadze.proofs.sumacadze_step.Symbol as sumacadze-step-code
 use Rattle.sumacadze.proofs.sumacadze_run as sumacadze-run
 use Rattle.sumacadze.proofs.sumacadze_run.Symbol as sumacadze-run-code
+use Rattle.sumacadze.proofs.load_match.sumacadze_load_match as sumacadze-load-match
+use Rattle.sumacadze.proofs.load_match.sumacadze_load_match.Symbol as sumacadze-load-match-code
 use Rattle.sumacadze.proofs.file.sumacadze_read as sumacadze-read
 use Rattle.sumacadze.proofs.file.sumacadze_read.Symbol as sumacadze-read-code
 use Rattle.sumacadze.proofs.file.sumacadze_read_line as sumacadze-read-line
 use Rattle.sumacadze.proofs.file.sumacadze_read_line.Symbol as sumacadze-read-line-code
-use Rattle.demands.specs.Promise.{Promise, FreshPromise, FreshNumber, CellPromise, CellNumber, DefaultPromise, FilePromise, LinePromise, LineNumbers, NamePromise, BodyPromise, FirstPromise, AddedPromise}
+use Rattle.demands.specs.Promise.{Promise, MatchPromise, FreshPromise, FreshNumber, CellPromise, CellNumber, DefaultPromise, FilePromise, LinePromise, LineNumbers, NamePromise, BodyPromise, FirstPromise, AddedPromise}
 
 -- a fact of a call's arguments a, its result r and the lent memory at its exit e
 abbrev pub Fact : Ended → Type 1
@@ -91,7 +95,10 @@ pub record CodeKeeps : Type 2 where
       (given (told (r .answer)) (r .writes) (r .steps) (machineOf (now (e .0)) (now (e .1 .0)) (r .header))))
   pub run : Keeps run.ended run-code.routine (λ κs a r e. Promise (Run (a .1 .1 .1 .0)) (machineOf (now (a .0)) (now (a .1 .0)) (a .1 .1 .0))
       (given (told (r .answer)) (r .writes) (r .steps) (machineOf (now (e .0)) (now (e .1 .0)) (r .header))))
-  -- exported: the header lent, and changed in place
+  pub load-match : Keeps load-match.ended load-match-code.routine (λ κs a r e.
+      MatchPromise (now (a .1 .1 .1 .0)) (machineOf (now (a .0)) (now (a .1 .0)) (a .1 .1 .0))
+      (given (told (r .outcome .answer)) (r .outcome .writes) (r .outcome .steps) (machineOf (now (e .0)) (now (e .1 .0)) (r .outcome .header))) (r .warrior))
+  -- exported: of load, step and run the header is lent, and changed in place
   pub sumacadze-fresh : Keeps sumacadze-fresh.ended sumacadze-fresh-code.routine (λ κs a r e.
       FreshNumber (a .0) (now (a .1 .0)) (now (a .1 .1 .0)) (r .number) (machineOf (now (e .1 .0)) (now (e .1 .1 .0)) (r .header)))
   pub sumacadze-get : Keeps sumacadze-get.ended sumacadze-get-code.routine (λ κs a r e. CellNumber (machineOf (now (a .0)) (now (a .1 .0)) (a .1 .1 .0)) (a .1 .1 .1 .0)
@@ -104,6 +111,9 @@ pub record CodeKeeps : Type 2 where
   pub sumacadze-run : Keeps sumacadze-run.ended sumacadze-run-code.routine (λ κs a r e.
       Promise (Run (ceilingIf (a .1 .1 .1 .0) (a .1 .1 .1 .1 .0))) (machineOf (now (a .0)) (now (a .1 .0)) (now (a .1 .1 .0)))
       (given (gives (r .number) (r .value)) (r .writes) (r .steps) (machineOf (now (e .0)) (now (e .1 .0)) (now (e .1 .1 .0)))))
+  pub sumacadze-load-match : Keeps sumacadze-load-match.ended sumacadze-load-match-code.routine (λ κs a r e.
+      MatchPromise (now (a .1 .1 .1 .0)) (machineOf (now (a .0)) (now (a .1 .0)) (a .1 .1 .0))
+      (given (gives (r .report .number) (r .report .value)) (r .report .writes) (r .report .steps) (machineOf (now (e .0)) (now (e .1 .0)) (r .header))) (r .warrior))
   -- the default modifier
   pub default : Keeps default.ended default-code.routine (λ κs a r e. DefaultPromise (a .0) (a .1 .0) (a .1 .1 .0) (told (r .answer)) (r .modifier))
   -- match files, read by value and exported, and written

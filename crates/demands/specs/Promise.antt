@@ -17,10 +17,12 @@ use Rattle.machine.specs.Step.{step}
 use Rattle.machine.specs.Run.{run, read}
 use Rattle.lent.specs.Given.{Given, givenBy}
 use Rattle.account.specs.Calls.{Call, Load, Step, Run}
+use Rattle.account.specs.Lists.{Listed, One, LoadMatch}
 use Rattle.match_format.specs.Format.{Warrior}
 use Rattle.match_format.specs.Faults.{fault, faultAt}
 use Rattle.match_file.specs.declared.Line.{Line}
 use Rattle.match_file.specs.Reading.{toldBy, zeroed, emptied, cleared, warriorsIn, sizeIn, lineAt, lineIn, nameStart, nameLength, bodyStart, countOf, warriorOf}
+use Rattle.match_load.specs.Loading.{loadMatch}
 use Rattle.write_checks.specs.Refusal.{Written}
 use Rattle.match_write.specs.Writing.{writeFirst, writeAdded}
 use Rattle.sumacadze.specs.declared.file.Line as exported
@@ -30,6 +32,15 @@ abbrev pub Promise : Call → Machine → Given → Type 0
 Promise (Load name body origin place) m g = g ≡ givenBy (load m name body origin place)
 Promise Step m g = g ≡ givenBy (step m)
 Promise (Run ceiling) m g = g ≡ givenBy (run ceiling m)
+
+-- a match loaded in one call, by value and exported: the same, and the number of the warrior at which it stopped
+abbrev pub MatchPromise : List ℕ → Machine → Given → ℕ → Type 0
+MatchPromise f m g warrior = (g ≡ givenBy (loadMatch m f .outcome)) × (warrior ≡ loadMatch m f .warrior)
+
+-- a call of a list
+abbrev pub ListedPromise : Listed → Machine → Given → Type 0
+ListedPromise (One c) m g = Promise c m g
+ListedPromise (LoadMatch f) m g = (warrior : ℕ) × MatchPromise f m g warrior
 
 -- fresh, by value
 abbrev pub FreshPromise : Rules → List ℕ → List ℕ → Given → Type 0

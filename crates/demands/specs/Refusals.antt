@@ -17,13 +17,15 @@ use Rattle.machine.specs.declared.Rules.{Rules}
 use Rattle.machine.specs.State.{Machine, Check, refusal, first, passes}
 use Rattle.machine.specs.Soundness.{soundHeader, freshChecks}
 use Rattle.machine.specs.Fresh.{lent}
+use Rattle.machine.specs.Load.{loadChecks}
 use Rattle.machine.specs.Step.{stepChecks, executes}
 use Rattle.machine.specs.Run.{plays, ceilingOf, readChecks}
 use Rattle.lent.specs.Given.{Given, given}
 use Rattle.match_format.specs.declared.Fault.the-variants.{At}
 use Rattle.match_format.specs.Format.{Bytes, IsFile}
 use Rattle.match_format.specs.Faults.{fault, faultAt}
-use Rattle.match_file.specs.Reading.{warriorsIn}
+use Rattle.match_file.specs.Reading.{warriorsIn, warriorOf}
+use Rattle.match_load.specs.Loading.{loads, matchChecks}
 use Rattle.write_checks.specs.Refusal.{Written}
 
 -- a call whose order has these rows, lent m, gave g: the first row that applies tells the number and its value, 0 is reported and the record is as it was;
@@ -50,6 +52,22 @@ pub record RunRefused (ceiling : Ceiling) (m : Machine) (g : Given) : Type 0 whe
       → (first (stepChecks (g .machine)) ≡ refusal (g .told .number) (g .told .value)) × (plays (g .steps) m .number ≡ 0) × (g .machine ≡ plays (g .steps) m .machine)
   pub there : soundHeader m ≡ true → (k : ℕ) → k < ceilingOf ceiling - m .header .steps → plays k m .number ≡ 0
       → (n v : ℕ) → first (stepChecks (plays k m .machine)) ≡ refusal n v → (g .told ≡ gives n v) × (g .steps ≡ k) × (g .machine ≡ plays k m .machine)
+
+-- a match loaded in one call: 9 (header), 13, 1, then its loads. A refusal inside it is that of the warrior whose number it tells: the loads before are
+-- answered 0, the record is as the last of them left it, and the writes are theirs; and where a row applies to the load of warrior k and the loads
+-- before it are answered 0, it is refused there
+abbrev pub warriorChecks : List ℕ → ℕ → Machine → List Check
+warriorChecks f k m = let w = warriorOf f k in loadChecks m (w .name) (w .body) (w .place)
+
+pub record MatchRefused (f : List ℕ) (m : Machine) (g : Given) (warrior : ℕ) : Type 0 where
+  pub by : (n v : ℕ) → first (matchChecks m f) ≡ refusal n v → (g ≡ given (gives n v) 0 0 m) × (warrior ≡ 0)
+  pub inside : passes (matchChecks m f) ≡ true → eqb (g .told .number) 0 ≡ false
+      → let o = loads f 0 warrior m .outcome in
+      (warrior < warriorsIn f) × (o .number ≡ 0) × (first (warriorChecks f warrior (o .machine)) ≡ refusal (g .told .number) (g .told .value))
+      × (g .machine ≡ o .machine) × (g .writes ≡ o .writes)
+  pub there : passes (matchChecks m f) ≡ true → (k : ℕ) → k < warriorsIn f → loads f 0 k m .outcome .number ≡ 0
+      → (n v : ℕ) → first (warriorChecks f k (loads f 0 k m .outcome .machine)) ≡ refusal n v
+      → (g .told ≡ gives n v) × (warrior ≡ k) × (g .machine ≡ loads f 0 k m .outcome .machine) × (g .writes ≡ loads f 0 k m .outcome .writes)
 
 -- the default modifier: 4, index 0, exactly where there is none
 pub record DefaultRefused (opcode a b : ℕ) (told : Told) : Type 0 where

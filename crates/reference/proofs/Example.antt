@@ -2,7 +2,7 @@
 -- Assumes nothing.
 use Prim.Native.Nat.{ℕ, _^_, _-_}
 use mathlib.Core.Path.{_≡_, refl}
-use mathlib.Core.List.{List, [], _∷_, _++_}
+use mathlib.Core.List.{List, [], _∷_, _++_, map}
 use native.Mathlib.Omega.{arith}
 use lib.ListN.{replicate}
 use Rattle.cell.specs.Cells.{soundWord}
@@ -24,6 +24,7 @@ use Rattle.machine.specs.Step.{effect, coreAfter, stepWritten, counted, execute
 use Rattle.machine.specs.Run.{run}
 use Rattle.machine.specs.Battles.{bytes, datum}
 use Rattle.account.specs.Calls.{Call, Load, Step, Run, outcome}
+use Rattle.account.specs.Lists.{One}
 use Rattle.reference.specs.Refinement.{Domain, Agrees}
 use Rattle.reference.proofs.Refinement.{refinement}
 
@@ -69,4 +70,4 @@ unfolding fresh
 made = refl
 
 agrees : Agrees calls start (refinement (ofSize 8) (replicate 8 7) (replicate 4 9) made .0)
-agrees = refinement (ofSize 8) (replicate 8 7) (replicate 4 9) made .2 calls in-domain
+agrees = refinement (ofSize 8) (replicate 8 7) (replicate 4 9) made .2 (map One calls) in-domain

@@ -18,6 +18,7 @@ use Rattle.machine.proofs.Soundness.{SoundHeader, size-most}
 use Rattle.machine.proofs.Fresh.{fresh-accepted}
 use Rattle.machine.proofs.SoundMachine.{SoundMachine, fresh-sound}
 use Rattle.account.specs.Calls.{Call, Load, Step, Run, outcome}
+use Rattle.account.specs.Lists.{spread}
 use Rattle.account.proofs.NeverNine.{call-sound}
 use Rattle.reference.specs.Types.{Instruction, default}
 use Rattle.reference.specs.Core.{Core, new}
@@ -73,12 +74,15 @@ fresh-same rules core queue e =
 
 -- THE THEOREM
 pub refinement : Refinement
-refinement rules core queue ok = (created (rules .size), made, λ calls. lists-agree calls (fresh rules core queue .machine) (created (rules .size)) sound same)
+refinement rules core queue ok = (created (rules .size), made, λ calls. lists-agree (spread calls m) m (created (rules .size)) sound same)
   where
-    is : fresh rules core queue .machine ≡ freshMachine rules core queue
+    m : Machine
+    m = fresh rules core queue .machine
+
+    is : m ≡ freshMachine rules core queue
     is = fresh-accepted rules core queue ok .1
 
-    sound : SoundMachine (fresh rules core queue .machine)
+    sound : SoundMachine m
     sound = fresh-sound rules core queue ok
 
     header : SoundHeader (freshMachine rules core queue)
@@ -87,5 +91,5 @@ refinement rules core queue ok = (created (rules .size), made, λ calls. lists-a
     made : new (rules .size) ≡ some (created (rules .size))
     made = simp (ne-eqb (rules .size) (2 ^ 32 - 1) (λ e. omega (arith, size-most (freshMachine rules core queue) header)))
 
-    same : Same (fresh rules core queue .machine) (created (rules .size))
+    same : Same m (created (rules .size))
     same = rw is (fresh-same rules core queue (sym (length-replicate (length core) freshCell) ∙ header .core))

@@ -17,6 +17,7 @@ use Rattle.machine.specs.Execution.{Next, ends, goes, splits}
 use Rattle.machine.specs.Step.{popped, effect, step}
 use Rattle.machine.specs.Run.{ceilingOf}
 use Rattle.account.specs.Calls.{Call, Load, Step, Run, outcome}
+use Rattle.account.specs.Lists.{Listed, spread}
 use Rattle.reference.specs.Process.{NoRemainingProcesses, ExecuteDat, DivideByZero}
 use Rattle.reference.specs.Core as Rust
 use Rattle.reference.specs.Core.{Core, Answer, Ok, WarriorTooLong, Err, Panic, Returned, new, load-warrior, run}
@@ -110,8 +111,9 @@ Agrees (x ∷ xs) m c =
     let r = rust (answered (o .number)) x m c in
     Same m c × (r .answer ≡ matching (answered (o .number)) (o .number) (o .value)) × Agrees xs (o .machine) (r .core)
 
--- THE STATEMENT. Where fresh makes a machine, the Rust makes a core of that size, and they agree over every list of calls in the domain
+-- THE STATEMENT. Where fresh makes a machine, the Rust makes a core of that size, and they agree over every list of calls in the domain; a match loaded
+-- in one call counts as the single loads that it made
 abbrev pub Refinement : Type 0
 Refinement =
     (rules : Rules) (core queue : List ℕ) → fresh rules core queue .number ≡ 0
-    → (c : Core) × (new (rules .size) ≡ some c) × ((calls : List Call) → Domain calls (fresh rules core queue .machine) → Agrees calls (fresh rules core queue .machine) c)
+    → (c : Core) × (new (rules .size) ≡ some c) × ((calls : List Listed) → let m = fresh rules core queue .machine in Domain (spread calls m) m → Agrees (spread calls m) m c)
