@@ -3,17 +3,18 @@
 //   driver TURNS                the least of so many turns, in ns, for measure.py
 //   driver agree SEED COUNT     random records on small cores: the library and the plain C leave the same
 //   driver count WHO BATTLE N   N steps of one battle by WHO (run, plain, pmars, step, plain-step), for instruction counts;
-//                               by idle, N calls of run that play nothing
+//                               by idle, N calls of run that play nothing; by fresh, one-call, known-loads and read-loads
+//                               N matches loaded, a fresh machine for each, whatever the battle
 //   driver oracle BATTLE N      a battle of N steps as a line for tools/oracle
+#include "matches.h"
 #include "pmars.h"
-#include "records.h"
 #include <stdio.h>
 #include <stdlib.h>
 #include <string.h>
 #include <time.h>
 
-// the steps of a turn, in runs and as single steps, and how many lengths of runs there are
-enum { TURN = 100000, FEW = 5000, LENGTHS = 3 };
+// the steps of a turn, in runs and as single steps, how many lengths of runs there are, and the matches loaded in a turn
+enum { TURN = 100000, FEW = 5000, LENGTHS = 3, MATCHES = 100 };
 
 static const double NEVER = 1e9;
 
@@ -31,10 +32,10 @@ static void shorten(double *least, double t) {
         *least = t;
 }
 
-static void demand(bool held, const char *what, const battle *b) {
+static void demand(bool held, const char *what, const char *where) {
     if (held)
         return;
-    fprintf(stderr, "%s: %s\n", b->name, what);
+    fprintf(stderr, "%s: %s\n", where, what);
     exit(1);
 }
 
@@ -60,7 +61,7 @@ static double pmars_turn(const battle *b, long steps, bool full) {
     for (long left = TURN; left > 0; left -= steps)
         all &= pmars_play(b->names + (full ? steps : 0));
     t = now() - t;
-    demand(all, "pMARS did not play all steps", b);
+    demand(all, "pMARS did not play all steps", b->name);
     return t / TURN;
 }
 
@@ -73,7 +74,7 @@ static void same_way(const battle *b) {
     pmars_set(b);
     for (long steps = 1; steps <= FEW; steps++) {
         long next = ours.queue[ours.header.ring.head] & 0xffff;
-        demand(pmars_play(steps) && pmars_place() == next, "pMARS goes another way", b);
+        demand(pmars_play(steps) && pmars_place() == next, "pMARS goes another way", b->name);
         play_run(sumacadze_run, &ours, 1);
     }
 }
@@ -94,7 +95,7 @@ static void run_row_turn(run_row *row) {
     shorten(&row->full, pmars_turn(row->b, row->steps, true));
     shorten(&row->setting_up, pmars_turn(row->b, row->steps, false));
     shorten(&row->c, run_turn(plain_run, &plain, row->steps));
-    demand(ours.header.steps == TURN && same_records(&ours, &plain), "the two differ, or it ended", row->b);
+    demand(ours.header.steps == TURN && same_records(&ours, &plain), "the two differ, or it ended", row->b->name);
 }
 
 static void print_run_row(const run_row *row) {
@@ -113,7 +114,7 @@ static void step_row_turn(step_row *row) {
     plain_record(&plain, &begun);
     shorten(&row->step, step_turn(sumacadze_step, &ours));
     shorten(&row->c, step_turn(plain_step, &plain));
-    demand(ours.header.steps == FEW && same_records(&ours, &plain), "the two differ, or it ended", row->b);
+    demand(ours.header.steps == FEW && same_records(&ours, &plain), "the two differ, or it ended", row->b->name);
 }
 
 static void print_step_row(const step_row *row) {
@@ -130,12 +131,32 @@ static double load_turn(void) {
     double t = now();
     sumacadze_report_t r = sumacadze_load(ours.core, M, ours.queue, LIMIT, h, (const uint8_t *)"a", 1, begun.body, 12 * M, 0, 0);
     t = now() - t;
-    demand(r.number == 0, "the load was refused", &BATTLES[0]);
+    demand(r.number == 0, "the load was refused", BATTLES[0].name);
     return t / M;
 }
 
+// a turn's matches, each loaded one way into a fresh machine; ns for a match
+static double match_turn(const way *w, record *r) {
+    bool all = true;
+    double t = now();
+    for (int i = 0; i < MATCHES; i++)
+        all &= load_match_by(w, r);
+    t = now() - t;
+    demand(all, "a load was refused", w->name);
+    return t / MATCHES;
+}
+
+// every way has its part; those that load leave what the last of them leaves
+static void match_turns(double least[WAYS]) {
+    load_match_by(&LOADING[WAYS - 1], &plain);
+    for (int i = 0; i < WAYS; i++) {
+        shorten(&least[i], match_turn(&LOADING[i], &ours));
+        demand(i == 0 || (ours.header.names.held == WARRIORS && same_records(&ours, &plain)), "it left another record", LOADING[i].name);
+    }
+}
+
 // every row has a part of each turn, so that a time in which the machine is slower falls on all of them
-static void measure(run_row runs[FOUR][LENGTHS], step_row steps[ALL], double *load, int turns) {
+static void measure(run_row runs[FOUR][LENGTHS], step_row steps[ALL], double *load, double matches[WAYS], int turns) {
     for (int turn = 0; turn < turns; turn++) {
         for (int i = 0; i < FOUR; i++)
             for (int k = 0; k < LENGTHS; k++)
@@ -143,6 +164,7 @@ static void measure(run_row runs[FOUR][LENGTHS], step_row steps[ALL], double *lo
         for (int i = 0; i < ALL; i++)
             step_row_turn(&steps[i]);
         shorten(load, load_turn());
+        match_turns(matches);
     }
 }
 
@@ -152,19 +174,29 @@ static void rows(int turns) {
     const long lengths[LENGTHS] = {100, 10000, 100000};
     static run_row runs[FOUR][LENGTHS];
     static step_row steps[ALL];
-    double load = NEVER;
+    double load = NEVER, matches[WAYS] = {NEVER, NEVER, NEVER, NEVER};
+    make_match();
     for (int i = 0; i < FOUR; i++)
         for (int k = 0; k < LENGTHS; k++)
             runs[i][k] = (run_row){&BATTLES[i], lengths[k], NEVER, NEVER, NEVER, NEVER};
     for (int i = 0; i < ALL; i++)
         steps[i] = (step_row){&BATTLES[i], NEVER, NEVER};
-    measure(runs, steps, &load, turns);
+    measure(runs, steps, &load, matches, turns);
     for (int i = 0; i < FOUR; i++)
         for (int k = 0; k < LENGTHS; k++)
             print_run_row(&runs[i][k]);
     for (int i = 0; i < ALL; i++)
         print_step_row(&steps[i]);
     printf("load instruction %d %.3f\n", M, load);
+    for (int i = 0; i < WAYS; i++)
+        printf("match %s %d %.3f\n", LOADING[i].name, WARRIORS, matches[i]);
+}
+
+static void count_matches(const char *who, long matches) {
+    make_match();
+    for (int i = 0; i < WAYS; i++)
+        for (long left = strcmp(who, LOADING[i].name) ? 0 : matches; left > 0; left--)
+            load_match_by(&LOADING[i], &ours);
 }
 
 static void count(const char *who, const battle *b, long steps) {
@@ -183,6 +215,8 @@ static void count(const char *who, const battle *b, long steps) {
     else if (!strcmp(who, "idle"))
         for (long i = 0; i < steps; i++)
             play_run(sumacadze_run, &ours, 0);
+    else
+        count_matches(who, steps);
 }
 
 int main(int n, char **word) {

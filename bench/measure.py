@@ -1,13 +1,16 @@
 # Measures what run.sh built: measure.py WORK
 # The driver is started several times, since pMARS' time depends on the addresses that a process gets; the least of each
-# figure is kept. Then instructions a step by callgrind, the difference of two lengths; and the Rust, if it was built, as a
-# program: CPU time, the difference of two lengths, the least of five turns.
+# figure is kept. Then instructions a step and for a match loaded by callgrind, the difference of two lengths; and the Rust, if
+# it was built, as a program: CPU time, the difference of two lengths, the least of five turns.
 import os
 import resource
 import subprocess
 import sys
 
 BATTLES = ["imp", "dwarf", "splitter", "mixed", "imps of 2 names", "imps of 16 names"]
+# the ways of loading a match, by their names in the driver; the second is what the others are compared with
+WAYS = {"one-call": "one call", "known-loads": "sixteen loads", "read-loads": "sixteen loads, the file read"}
+WARRIORS = 16
 STARTS, TURNS = 12, 40
 work = sys.argv[1]
 
@@ -29,7 +32,7 @@ def least():
 
 
 def instructions(who, i, steps):
-    """Instructions that one step takes."""
+    """Instructions that one step takes, or one match."""
     total = []
     for n in [steps, 2 * steps]:
         command = ["valgrind", "--tool=callgrind", f"--callgrind-out-file={work}/callgrind.out", f"{work}/driver", "count", who, str(i), str(n)]
@@ -62,9 +65,8 @@ def row(name, numbers, digits):
     print(f"| {name} |", " | ".join(f"{x:.{digits}f}" for x in numbers), "|", flush=True)
 
 
-def times():
+def times(found):
     """The tables of times, with their ratios."""
-    found = least()
     print("| battle | steps | run | plain C | pMARS | to plain C | to pMARS |\n|---|---|---|---|---|---|---|")
     for (kind, name, number), figures in found.items():
         if kind == "run":
@@ -79,14 +81,27 @@ def times():
     print(f"\nload, for an instruction: {found['load', 'instruction', 8000][0]:.1f} ns\n", flush=True)
 
 
+def matches(found):
+    """The table of the ways of loading a match; the fresh machine, without which none is loaded, is taken off."""
+    time = {way: found["match", way, WARRIORS][0] - found["match", "fresh", WARRIORS][0] for way in WAYS}
+    before = instructions("fresh", 0, 100)
+    count = {way: instructions(way, 0, 100) - before for way in WAYS}
+    print("\n| loaded by | ns | instructions | ns, to sixteen loads | instructions, to sixteen loads |\n|---|---|---|---|---|")
+    for way, name in WAYS.items():
+        ratios = f"{time[way] / time['known-loads']:.3f} | {count[way] / count['known-loads']:.3f}"
+        print(f"| {name} | {time[way]:,.0f} | {count[way]:,.0f} | {ratios} |", flush=True)
+
+
 print(text("agree", 1, 1_000_000))
-times()
+found = least()
+times(found)
 print("Instructions a step:\n\n| battle | run | plain C | pMARS |\n|---|---|---|---|")
 for i, name in enumerate(BATTLES[:4]):
     row(name, [instructions(who, i, 60_000) for who in ["run", "plain", "pmars"]], 1)
 print("\n| battle | outer step | plain C | a call that plays nothing |\n|---|---|---|---|")
 for i, name in enumerate(BATTLES):
     row(name, [instructions(who, i, 6_000) for who in ["step", "plain-step", "idle"]], 1)
+matches(found)
 if os.path.exists(f"{work}/rust-quiet/oracle"):
     print("\n| battle | the Rust | without its trace |\n|---|---|---|")
     for i, name in enumerate(BATTLES[:4]):

@@ -20,8 +20,8 @@ for part in sim pos global str_eng; do
 done
 gcc -O3 -Wall -fcommon -DEXT94 -DPERMUTATE -DSERVER -isystem "$pmars" -c -o "$work/objects/pmars.o" bench/pmars.c
 
-gcc -O3 -Wall -Iinclude -o "$work/driver" bench/driver.c bench/records.c bench/battles.c bench/plain.c "$work"/objects/*.o \
-    target/staticlib/libsumacadze.a
+gcc -O3 -Wall -Iinclude -o "$work/driver" bench/driver.c bench/matches.c bench/records.c bench/battles.c bench/plain.c \
+    "$work"/objects/*.o target/staticlib/libsumacadze.a
 
 if [ -n "$sources" ]; then
     export CARGO_PROFILE_RELEASE_OVERFLOW_CHECKS=false

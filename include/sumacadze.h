@@ -9,7 +9,7 @@
  * - a memory or header that a call may write overlaps nothing else that the call is given;
  * - nothing else uses them while the call runs.
  * What the bytes say is not the caller's duty: memories, headers, names, bodies and files may hold anything. A refusal
- * changes nothing.
+ * changes nothing, except that of a match loaded in one call the warriors before the refused one stand.
  */
 #ifndef SUMACADZE_H
 #define SUMACADZE_H
@@ -80,6 +80,13 @@ typedef struct {
     sumacadze_header_t header;
 } sumacadze_fresh_t;
 
+/* The report of a match's loads, the number, from 0, of the warrior that was refused, else 0, and the header left. */
+typedef struct {
+    sumacadze_report_t report;
+    size_t warrior;
+    sumacadze_header_t header;
+} sumacadze_loads_t;
+
 typedef struct {
     uint8_t number, opcode, modifier, a_mode, b_mode;
     uint32_t a, b;
@@ -106,6 +113,11 @@ sumacadze_fresh_t sumacadze_fresh(sumacadze_rules_t rules, uint64_t *core, size_
 sumacadze_report_t sumacadze_load(uint64_t *core, size_t core_length, uint64_t *queue, size_t queue_length,
                                   sumacadze_header_t *header, const uint8_t *name, size_t name_length,
                                   const uint8_t *body, size_t body_length, uint16_t origin, uint32_t place);
+
+/* Loads every warrior of a match file in file order, up to the first refused; those before it stand, with their writes.
+ * The header that comes back is the machine's from then on; where nothing was loaded it is the one given. */
+sumacadze_loads_t sumacadze_load_match(uint64_t *core, size_t core_length, uint64_t *queue, size_t queue_length,
+                                       sumacadze_header_t header, const uint8_t *file, size_t file_length);
 
 /* Executes one instruction of the process at the front. */
 sumacadze_report_t sumacadze_step(uint64_t *core, size_t core_length, uint64_t *queue, size_t queue_length,
@@ -139,6 +151,8 @@ SUMACADZE_ASSERT(offsetof(sumacadze_roster_t, bytes) == 4 && offsetof(sumacadze_
 SUMACADZE_ASSERT(offsetof(sumacadze_header_t, counts) == 548 && offsetof(sumacadze_header_t, threads) == 612);
 SUMACADZE_ASSERT(sizeof(sumacadze_rules_t) == 4 && sizeof(sumacadze_fresh_t) == 680);
 SUMACADZE_ASSERT(sizeof(sumacadze_report_t) == 32 && sizeof(sumacadze_reading_t) == 16);
+SUMACADZE_ASSERT(sizeof(sumacadze_loads_t) == 720 && offsetof(sumacadze_loads_t, warrior) == 32);
+SUMACADZE_ASSERT(offsetof(sumacadze_loads_t, header) == 40);
 SUMACADZE_ASSERT(sizeof(sumacadze_contents_t) == 32 && sizeof(sumacadze_line_t) == 56);
 SUMACADZE_ASSERT(sizeof(bool) == 1 && sizeof(size_t) == 8);
 

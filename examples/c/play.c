@@ -45,14 +45,9 @@ int main(int words, char **word) {
     sumacadze_fresh_t machine = sumacadze_fresh((sumacadze_rules_t){.size = size}, core, size, queue, QUEUE);
     if (machine.number)
         return refused(machine.number, 0);
-    for (size_t i = 0; i < contents.warriors; i++) {
-        sumacadze_line_t line = sumacadze_read_line(file, length, i);
-        sumacadze_report_t load =
-            sumacadze_load(core, size, queue, QUEUE, &machine.header, file + line.name_start, line.name_length,
-                           file + line.body_start, line.body_length, line.origin, line.place);
-        if (load.number)
-            return refused(load.number, load.value);
-    }
-    sumacadze_report_t run = sumacadze_run(core, size, queue, QUEUE, &machine.header, false, 0);
-    return played(run, &machine.header);
+    sumacadze_loads_t loads = sumacadze_load_match(core, size, queue, QUEUE, machine.header, file, length);
+    if (loads.report.number)
+        return refused(loads.report.number, loads.report.value);
+    sumacadze_report_t run = sumacadze_run(core, size, queue, QUEUE, &loads.header, false, 0);
+    return played(run, &loads.header);
 }

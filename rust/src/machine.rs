@@ -49,6 +49,13 @@ pub struct Report {
     pub steps: u64,
 }
 
+/// The report of a match's loads, and the number, from 0, of the warrior that was refused, else 0.
+#[derive(Clone, Copy, Debug, PartialEq, Eq)]
+pub struct Loads {
+    pub report: Report,
+    pub warrior: usize,
+}
+
 /// An instruction of the core, in the numbers of docs/MACHINE.md.
 #[derive(Clone, Copy, Debug, PartialEq, Eq)]
 pub struct Cell {
@@ -195,6 +202,27 @@ impl<'a> Machine<'a> {
                 place,
             )
         })
+    }
+
+    /// Loads every warrior of a match file in file order, up to the first refused; those before it stand, with their writes.
+    pub fn load_match(&mut self, file: &[u8]) -> Loads {
+        // SAFETY: the memories are exclusive here, and no slice is null.
+        let l = unsafe {
+            raw::sumacadze_load_match(
+                self.core.as_mut_ptr(),
+                self.core.len(),
+                self.queue.as_mut_ptr(),
+                self.queue.len(),
+                self.header,
+                file.as_ptr(),
+                file.len(),
+            )
+        };
+        self.header = l.header;
+        Loads {
+            report: report(l.report),
+            warrior: l.warrior,
+        }
     }
 
     /// Executes one instruction of the process at the front.

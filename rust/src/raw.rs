@@ -17,6 +17,13 @@ pub struct Fresh {
 }
 
 #[repr(C)]
+pub struct Loads {
+    pub report: Report,
+    pub warrior: usize,
+    pub header: Header,
+}
+
+#[repr(C)]
 pub struct Reading {
     pub number: u8,
     pub opcode: u8,
@@ -54,6 +61,8 @@ const _: () = assert!(offset_of!(Roster, bytes) == 4 && offset_of!(Roster, lengt
 const _: () = assert!(offset_of!(Header, counts) == 548 && offset_of!(Header, threads) == 612);
 const _: () = assert!(size_of::<Rules>() == 4 && size_of::<Fresh>() == 680);
 const _: () = assert!(size_of::<Report>() == 32 && size_of::<Reading>() == 16);
+const _: () = assert!(size_of::<Loads>() == 720 && offset_of!(Loads, warrior) == 32);
+const _: () = assert!(offset_of!(Loads, header) == 40);
 const _: () = assert!(size_of::<Contents>() == 32 && size_of::<Line>() == 56);
 
 extern "C" {
@@ -78,6 +87,15 @@ extern "C" {
         origin: u16,
         place: u32,
     ) -> Report;
+    pub fn sumacadze_load_match(
+        core: *mut u64,
+        core_length: usize,
+        queue: *mut u64,
+        queue_length: usize,
+        header: Header,
+        file: *const u8,
+        file_length: usize,
+    ) -> Loads;
     pub fn sumacadze_step(
         core: *mut u64,
         core_length: usize,

@@ -1,5 +1,8 @@
-//! The safe calls: numbers, refusals that change nothing, parts of a file, and memory that comes as pointers.
-use sumacadze::{Answer, Header, Machine, Match, NotLent, Ring, Roster, Rules, NO_ORIGIN};
+//! The safe calls: numbers, refusals that change nothing, a match in one call, parts of a file, and memory that comes as
+//! pointers.
+use sumacadze::{
+    Answer, Header, Loads, Machine, Match, NotLent, Report, Ring, Roster, Rules, NO_ORIGIN,
+};
 
 /// MOV.I $0, $1.
 const IMP: [u8; 12] = [1, 6, 1, 1, 0, 0, 0, 0, 1, 0, 0, 0];
@@ -8,6 +11,45 @@ const DAT: [u8; 12] = [0, 4, 1, 1, 0, 0, 0, 0, 0, 0, 0, 0];
 
 fn memories() -> (Vec<u64>, Vec<u64>) {
     (vec![7; 8], vec![7; 4])
+}
+
+/// A warrior as a line of a match file has it: its name, body, origin and place.
+type Entry<'a> = (&'a [u8], &'a [u8], u16, u16);
+
+fn match_file(size: u16, warriors: &[Entry]) -> Vec<u8> {
+    let mut file = vec![warriors.len() as u8];
+    file.extend_from_slice(&size.to_le_bytes());
+    file.push(0);
+    let mut start = 4 + 43 * warriors.len();
+    for (name, body, origin, place) in warriors {
+        file.push(name.len() as u8);
+        file.extend_from_slice(name);
+        file.resize(file.len() + 32 - name.len(), 0);
+        file.extend_from_slice(&(start as u32).to_le_bytes());
+        for number in [(body.len() / 12) as u16, *origin, *place] {
+            file.extend_from_slice(&number.to_le_bytes());
+        }
+        start += body.len();
+    }
+    for (_, body, _, _) in warriors {
+        file.extend_from_slice(body);
+    }
+    file
+}
+
+/// What a call that loads a match gives.
+fn loads(answer: Answer, writes: u64, warrior: usize) -> Loads {
+    let report = Report {
+        answer,
+        writes,
+        steps: 0,
+    };
+    Loads { report, warrior }
+}
+
+/// The whole record of a machine.
+fn record(m: &Machine) -> (Header, Vec<u64>, Vec<u64>) {
+    (*m.header(), m.core().to_vec(), m.queue().to_vec())
 }
 
 #[test]
@@ -88,6 +130,99 @@ fn loads_are_refused_by_their_numbers() {
 }
 
 #[test]
+fn a_match_is_loaded_in_one_call() {
+    let pair = [IMP, DAT].concat();
+    let file = match_file(
+        8,
+        &[
+            (b"Imp", &pair, 1, 7),
+            (b"", &DAT, NO_ORIGIN, 3),
+            (b"Imp", &[], 0, 2),
+        ],
+    );
+    let (mut core, mut queue) = memories();
+    let mut m = Machine::fresh(Rules { size: 8 }, &mut core, &mut queue).unwrap();
+    assert_eq!(m.load_match(&file), loads(Answer::Done, 3, 0));
+    let names: Vec<_> = m.names().collect();
+    assert_eq!(names, [(&b"Imp"[..], 2), (&b"Warrior0"[..], 1)]);
+    let (mut core, mut queue) = memories();
+    let mut single = Machine::fresh(Rules { size: 8 }, &mut core, &mut queue).unwrap();
+    single.load(b"Imp", &pair, 1, 7);
+    single.load(b"", &DAT, NO_ORIGIN, 3);
+    single.load(b"Imp", &[], 0, 2);
+    assert_eq!(record(&m), record(&single));
+    // one slot of the queue is left: of the same file the first warrior stands, the second is refused
+    assert_eq!(m.load_match(&file), loads(Answer::NoRoom, 2, 1));
+    assert_eq!(single.load(b"Imp", &pair, 1, 7).answer, Answer::Done);
+    assert_eq!(record(&m), record(&single));
+}
+
+#[test]
+fn a_refused_warrior_leaves_those_before_it() {
+    let faulty = [IMP, DAT, [19; 12]].concat();
+    let file = match_file(
+        8,
+        &[
+            (b"A", &IMP, 0, 0),
+            (b"B", &DAT, 0, 4),
+            (b"C", &faulty, 0, 1),
+            (b"D", &IMP, 0, 6),
+        ],
+    );
+    let (mut core, mut queue) = memories();
+    let mut m = Machine::fresh(Rules { size: 8 }, &mut core, &mut queue).unwrap();
+    assert_eq!(m.load_match(&file), loads(Answer::InvalidCode(2), 2, 2));
+    let (mut core, mut queue) = memories();
+    let mut single = Machine::fresh(Rules { size: 8 }, &mut core, &mut queue).unwrap();
+    single.load(b"A", &IMP, 0, 0);
+    single.load(b"B", &DAT, 0, 4);
+    assert_eq!(record(&m), record(&single));
+    // the first warrior of a file refused: its number is 0, too
+    let long = [DAT; 9].concat();
+    for (warrior, answer) in [
+        ((&b"A"[..], &long[..], 0, 0), Answer::WarriorTooLong),
+        ((b"A", &IMP, 0, 8), Answer::InvalidNameOrPlace),
+    ] {
+        assert_eq!(
+            m.load_match(&match_file(8, &[warrior])),
+            loads(answer, 0, 0)
+        );
+        assert_eq!(record(&m), record(&single));
+    }
+}
+
+#[test]
+fn a_match_refused_before_its_loads_changes_nothing() {
+    let file = match_file(8, &[(b"A", &IMP, 0, 0), (b"B", &DAT, 0, 4)]);
+    let other = match_file(7, &[(b"A", &IMP, 0, 0), (b"B", &DAT, 0, 4)]);
+    let (mut core, mut queue) = memories();
+    let mut m = Machine::fresh(Rules { size: 8 }, &mut core, &mut queue).unwrap();
+    m.load(b"Imp", &IMP, 0, 3);
+    let before = record(&m);
+    let cut = file.len() - 1;
+    assert_eq!(m.load_match(&other), loads(Answer::InvalidCoreSize, 0, 0));
+    assert_eq!(
+        m.load_match(&other[..cut]),
+        loads(Answer::Malformed(cut), 0, 0)
+    );
+    assert_eq!(
+        m.load_match(&file[..cut]),
+        loads(Answer::Malformed(cut), 0, 0)
+    );
+    assert_eq!(m.load_match(&[]), loads(Answer::Malformed(0), 0, 0));
+    assert_eq!(record(&m), before);
+    let mut header = before.0;
+    header.ring.head = 4;
+    let (mut core, mut queue) = memories();
+    let mut m = Machine::from_parts(&mut core, &mut queue, header);
+    let before = record(&m);
+    for file in [&file[..], &other, &file[..cut], &[]] {
+        assert_eq!(m.load_match(file), loads(Answer::UnsoundRecord, 0, 0));
+        assert_eq!(record(&m), before);
+    }
+}
+
+#[test]
 fn any_header_is_taken_and_an_unsound_one_is_refused() {
     let header = Header {
         rules: Rules { size: 8 },
@@ -152,12 +287,7 @@ fn memory_that_comes_as_pointers_is_tested() {
 
 #[test]
 fn a_file_is_read_by_its_parts() {
-    let mut file = vec![1, 8, 0, 0];
-    file.extend_from_slice(&[3]);
-    file.extend_from_slice(b"Imp");
-    file.extend_from_slice(&[0; 29]);
-    file.extend_from_slice(&[47, 0, 0, 0, 1, 0, 255, 255, 5, 0]);
-    file.extend_from_slice(&IMP);
+    let file = match_file(8, &[(b"Imp", &IMP, NO_ORIGIN, 5)]);
     let game = Match::read(&file).unwrap();
     assert_eq!((game.size, game.warriors), (8, 1));
     let w = game.warrior(0).unwrap();
