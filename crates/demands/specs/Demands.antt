@@ -93,9 +93,10 @@ pub record Demand2 : Type 2 where
   -- and what the writer accepts of a file is written back byte for byte
   pub writes-back : WritesBack
 
--- DEMAND 3. Whatever loads, matches loaded in one call, steps and runs the program made, refused ones among them, on a machine that fresh had made: the account holds of the program's
--- last record and of the writes that it reported, against what 01's machine tells of the same calls. That machine is never shown the program's record: it has
--- memories of its own, as long as those lent to fresh. The account's sentences are the fields of `Account` (crates/account/specs/Account.antt).
+-- DEMAND 3. Whatever loads, matches loaded in one call, steps and runs the program made, refused ones among them, on a machine that fresh had made: the
+-- account holds of the program's last record and of the writes that it reported, against what 01's machine tells of the same calls. That machine is never
+-- shown the program's record: it has memories of its own, as long as those lent to fresh. The account's sentences are the fields of `Account`
+-- (crates/account/specs/Account.antt).
 -- The theorem is `demand-3` (proofs/Demands.antt)
 abbrev pub Demand3 : Type 0
 Demand3 =

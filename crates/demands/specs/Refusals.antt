@@ -53,12 +53,13 @@ pub record RunRefused (ceiling : Ceiling) (m : Machine) (g : Given) : Type 0 whe
   pub there : soundHeader m ≡ true → (k : ℕ) → k < ceilingOf ceiling - m .header .steps → plays k m .number ≡ 0
       → (n v : ℕ) → first (stepChecks (plays k m .machine)) ≡ refusal n v → (g .told ≡ gives n v) × (g .steps ≡ k) × (g .machine ≡ plays k m .machine)
 
--- a match loaded in one call: 9 (header), 13, 1, then its loads. A refusal inside it is that of the warrior whose number it tells: the loads before are
--- answered 0, the record is as the last of them left it, and the writes are theirs; and where a row applies to the load of warrior k and the loads
--- before it are answered 0, it is refused there
+-- the order of the load of warrior k of a file
 abbrev pub warriorChecks : List ℕ → ℕ → Machine → List Check
 warriorChecks f k m = let w = warriorOf f k in loadChecks m (w .name) (w .body) (w .place)
 
+-- a match loaded in one call: 9 (header), 13, 1, then its loads. A refusal inside it is that of the warrior whose number it tells: the loads before are
+-- answered 0, the record is as the last of them left it, and the writes are theirs; and where a row applies to the load of warrior k and the loads
+-- before it are answered 0, it is refused there
 pub record MatchRefused (f : List ℕ) (m : Machine) (g : Given) (warrior : ℕ) : Type 0 where
   pub by : (n v : ℕ) → first (matchChecks m f) ≡ refusal n v → (g ≡ given (gives n v) 0 0 m) × (warrior ≡ 0)
   pub inside : passes (matchChecks m f) ≡ true → eqb (g .told .number) 0 ≡ false

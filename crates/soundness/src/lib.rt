@@ -1,4 +1,4 @@
-// The tests of a lent record: its header, and the front entry (01, 'What a call gives back').
+// The tests of a lent record: its header, and the front entry (01, 'What a call gives back'); and the lengths of a header's arrays.
 ghost use mathlib.Core.Path.{_≡_};
 ghost use mathlib.Core.List.{[]};
 ghost use Prim.Native.Nat.{ℕ, _+_, _-_, _≤_, _<_};
