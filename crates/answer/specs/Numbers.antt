@@ -1,8 +1,8 @@
--- 01's number, and the value given with it, for each case of the answer (01, 'What a call gives back').
+-- 01's number, and the value given with it, for each case of the answer (01, 'What a call gives back'; 02's new numbers).
 -- Believed. Assumes nothing.
 use Prim.Native.Nat.{ℕ}
 use Rattle.answer.specs.declared.Answer.{Answer}
-use Rattle.answer.specs.declared.Answer.the-variants.{Done, InvalidCoreSize, InvalidMemory, WarriorTooLong, InvalidCode, InvalidNameOrPlace, NoRoom, NoRemainingProcesses, NumbersExhausted, UnsoundRecord, PrivateMemory, ExecuteDat, DivideByZero, Malformed}
+use Rattle.answer.specs.declared.Answer.the-variants.{Done, InvalidCoreSize, InvalidMemory, WarriorTooLong, InvalidCode, InvalidNameOrPlace, NoRoom, NoRemainingProcesses, NumbersExhausted, UnsoundRecord, PrivateMemory, ExecuteDat, DivideByZero, Malformed, InvalidLimit}
 
 -- the number, and its value: 4's index, 11's place, 13's position; else 0
 pub record Told : Type 0 where
@@ -27,3 +27,4 @@ told PrivateMemory = gives 10 0
 told (ExecuteDat place) = gives 11 place
 told DivideByZero = gives 12 0
 told (Malformed position) = gives 13 position
+told InvalidLimit = gives 14 0

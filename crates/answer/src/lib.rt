@@ -1,4 +1,4 @@
-// What a call gives back (01's first table), in its order. The names are the Rust's where it has one.
+// What a call gives back (01's first table, and 02's numbers after it), in its order. The names are the Rust's where it has one.
 ghost use mathlib.Core.Path.{_≡_};
 ghost use Rattle.answer.specs.Numbers.{told};
 
@@ -17,6 +17,7 @@ pub enum Answer {
     ExecuteDat(u32),
     DivideByZero,
     Malformed(usize),
+    InvalidLimit,
 }
 
 // An answer's number.
@@ -38,6 +39,7 @@ pub fn number(answer: Answer) -> u8
         Answer::ExecuteDat(_) => 11,
         Answer::DivideByZero => 12,
         Answer::Malformed(_) => 13,
+        Answer::InvalidLimit => 14,
     }
 }
 
@@ -60,5 +62,6 @@ pub fn value(answer: Answer) -> usize
         Answer::ExecuteDat(place) => place as usize,
         Answer::DivideByZero => 0,
         Answer::Malformed(position) => position,
+        Answer::InvalidLimit => 0,
     }
 }

@@ -26,7 +26,7 @@ module _ (rules : Rules) (core queue : List ℕ) where
       go : (v : Verdict) → first (freshChecks rules core queue) ≡ v
           → P (settle v (lent core queue) (done (freshMachine rules core queue) 0 0))
       go accepted e = a e
-      go (refusal n v) e = r n v (number-of (λ n. eqb n 0 ≡ false) (freshChecks rules core queue) (refl and refl and tt) n v e)
+      go (refusal n v) e = r n v (number-of (λ n. eqb n 0 ≡ false) (freshChecks rules core queue) (refl and refl and refl and tt) n v e)
 
   -- refused: what was lent is as it was
   pub fresh-refused : eqb (fresh rules core queue .number) 0 ≡ false → Refused (lent core queue) (fresh rules core queue)
@@ -40,7 +40,7 @@ module _ (rules : Rules) (core queue : List ℕ) where
       fresh-by-cases (λ o. o .number ≡ 0 → (first (freshChecks rules core queue) ≡ accepted) × (o .machine ≡ freshMachine rules core queue))
       (λ n v x z. absurd (true≢false (sym (rw z) ∙ x))) (λ e z. (e, refl))
 
--- it accepts every valid size and queue length
+-- it accepts every valid size, queue length and pair of limits
 pub fresh-accepts : (rules : Rules) (core queue : List ℕ) → Taken rules core queue → fresh rules core queue .number ≡ 0
 unfolding fresh
 fresh-accepts rules core queue t =

@@ -1,23 +1,31 @@
--- Laws of an operand: it keeps the core's length, writes once at most, and of a sound core it leaves a sound one and reads sound cells.
+-- Laws of an operand: a fold stays below M, and the operand keeps the core's length, writes once at most, and of a sound core leaves a sound one and reads sound cells.
 -- Assumes nothing.
-use Prim.Native.Nat.{ℕ, _≤_, _<_}
+use Prim.Native.Nat.{ℕ, _+_, _-_, _/_, _%_, _≤_, _<_}
 use mathlib.Core.Path.{_≡_, refl, ap, _∙_}
-use mathlib.Core.Bool.{true}
+use mathlib.Core.Bool.{Bool, true, false, cond}
 use mathlib.Core.List.{List}
 use native.Mathlib.Nat.{mod-lt}
 use native.Mathlib.Omega.{arith}
+use lib.Dec.{ltb}
 use lib.ListN.{length, getD, set, length-set}
 use lib.Seq.{getD-set-same, getD-set-other}
 use Rattle.laws.specs.Lists.{every}
 use Rattle.laws.proofs.Every.{Every, every-at, every-set}
 use Rattle.cell.specs.declared.Cell.{Cell}
 use Rattle.types.specs.Types.{Field, A, B}
-use Rattle.offset.specs.Offset.{ahead}
 use Rattle.cell.specs.Cells.{packed, unpacked, soundWord, number, withNumber, cellAt}
 use Rattle.offset.proofs.Offsets.{ahead-lt}
 use Rattle.cell.proofs.Words.{word-range, with-range, unpack-pack}
 use Rattle.cell.proofs.Soundness.{Sound, sound-fields, fields-sound}
-use Rattle.machine.specs.Pointers.{Reach, here, there, through, reaches, Shift, keeps, lowers, raises, shifts, fieldOf, used, pointerOf, changed, before, after, shifted, Site, Operand, operand}
+use Rattle.machine.specs.Pointers.{Reach, here, there, through, reaches, Shift, keeps, lowers, raises, shifts, fieldOf, fold, located, pointed, changed, before, after, shifted, Site, Operand, operand}
+
+-- a pointer folded by a limit of at most M
+pub fold-below : (limit size p : ℕ) → 0 < limit → limit ≤ size → fold limit size p < size
+fold-below limit size p pos most = go (ltb (limit / 2) (p % limit)) (p % limit) (mod-lt p pos)
+  where
+    go : (b : Bool) (r : ℕ) → r < limit → cond b (r + (size - limit)) r < size
+    go true r h = omega arith
+    go false r h = omega arith
 
 -- reading after a change
 pub changed-same : (f : Field) (core : List ℕ) (p x : ℕ) → p < length core → x < 65536
@@ -45,7 +53,7 @@ unfolding operand
 length-operand s core mode n =
     let size = s .rules .size in
     let t = getD shifts mode keeps in
-    let l = ahead size (s .pc) n in
+    let l = located s (s .rules .write) n in
     length-after t size (before t size core l _ _) l _ _ ∙ length-before t size core l _ _
 
 -- one place written at most
@@ -56,12 +64,7 @@ shifted-one raises l = omega arith
 
 pub operand-writes : (s : Site) (core : List ℕ) (mode n : ℕ) → length (operand s core mode n .written) ≤ 1
 unfolding operand
-operand-writes s core mode n = shifted-one (getD shifts mode keeps) (ahead (s .rules .size) (s .pc) n)
-
--- it reads and writes at one place
-pub one-pointer : (s : Site) (core : List ℕ) (mode n : ℕ) → operand s core mode n .write ≡ operand s core mode n .read
-unfolding operand
-one-pointer s core mode n = refl
+operand-writes s core mode n = shifted-one (getD shifts mode keeps) (located s (s .rules .write) n)
 
 -- a core of that size whose cells are all sound
 pub record SoundCore (size : ℕ) (core : List ℕ) : Type 0 where
@@ -105,11 +108,6 @@ module _ (size : ℕ) where
   after-sound lowers core l f x c h = c
   after-sound raises core l f x c h = changed-sound core l f _ c h (mod-lt _ (omega arith))
 
-  pub pointer-lt : (r : Reach) (pc l x : ℕ) → pc < size → l < size → pointerOf r size pc l x < size
-  pointer-lt here pc l x hp hl = hp
-  pointer-lt there pc l x hp hl = hl
-  pointer-lt (through f) pc l x hp hl = ahead-lt size l x (omega arith)
-
   -- an operand of a sound core: the cells read are sound, and so are those left
   pub record SoundOperand (o : Operand) : Type 0 where
     pub core : SoundCore size (o .core)
@@ -118,22 +116,31 @@ module _ (size : ℕ) where
     pub register : Sound size (o .register)
     pub seen : every (soundWord size) (o .seen) ≡ true
 
+-- a place that is pointed to lies in the core
+pub pointed-lt : (r : Reach) (s : Site) (limit n : ℕ) (core : List ℕ) → s .pc < s .rules .size → pointed r s limit n core < s .rules .size
+pointed-lt here s limit n core h = h
+pointed-lt there s limit n core h = ahead-lt (s .rules .size) (s .pc) _ (omega arith)
+pointed-lt (through f) s limit n core h = ahead-lt (s .rules .size) (s .pc) _ (omega arith)
+
 pub operand-sound : (s : Site) (core : List ℕ) (mode n : ℕ) → SoundCore (s .rules .size) core → s .pc < s .rules .size
     → SoundOperand (s .rules .size) (operand s core mode n)
 unfolding operand
 operand-sound s core mode n c h =
     let size = s .rules .size in
-    let place = ahead size (s .pc) n in
-    let l : place < size = ahead-lt size (s .pc) n (omega arith) in
+    let place = located s (s .rules .write) n in
+    let l : place < size = ahead-lt size (s .pc) _ (omega arith) in
+    let k : located s (s .rules .read) n < size = ahead-lt size (s .pc) _ (omega arith) in
     let t = getD shifts mode keeps in
     let r = getD reaches mode here in
     let x = number (fieldOf r) (cellAt core place) in
     let b = before-sound size t core place (fieldOf r) x c l in
-    let p = pointer-lt size r (s .pc) place (used t size x) h l in
+    let lowered = before t size core place (fieldOf r) x in
+    let read = pointed-lt r s (s .rules .read) n lowered h in
+    let write = pointed-lt r s (s .rules .write) n lowered h in
     record {
-      core = after-sound size t (before t size core place (fieldOf r) x) place (fieldOf r) x b l;
-      read = p;
-      write = p;
-      register = fields-at size _ b _ p;
-      seen = rw (cell-at size core c place l, cell-at size _ b _ p);
+      core = after-sound size t lowered place (fieldOf r) x b l;
+      read = read;
+      write = write;
+      register = fields-at size _ b _ read;
+      seen = rw (cell-at size core c _ k, cell-at size core c place l, cell-at size _ b _ read, cell-at size _ b _ write);
     }

@@ -176,6 +176,7 @@ fresh-sound rules core queue ok =
         size = t .size;
         core = length-replicate (length core) freshCell ∙ t .cells;
         queue = rw (length-replicate {A = ℕ} (length queue) 0) (t .slots);
+        limits = t .limits;
         limit = omega arith;
         head = rw (length-replicate {A = ℕ} (length queue) 0) some;
         few = omega arith;

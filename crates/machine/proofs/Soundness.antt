@@ -1,15 +1,15 @@
--- What fresh takes; the sound header and front entry, test by test; what keeps a header sound: pop, push, a step counted, a next thread number, a name registered.
+-- What fresh takes; a divisor of M; the sound header and front entry, test by test; what keeps a header sound: pop, push, a step counted, a next thread number, a name registered.
 -- Assumes nothing.
-use Prim.Native.Nat.{ℕ, _+_, _-_, _/_, _^_, _≤_, _<_}
+use Prim.Native.Nat.{ℕ, _+_, _-_, _/_, _%_, _^_, _≤_, _<_}
 use mathlib.Core.Path.{_≡_, refl, sym, ap, subst, _∙_}
 use mathlib.Core.Bool.{Bool, true, false, cond, not, _&&_, _||_}
 use mathlib.Core.List.{List}
-use native.Mathlib.Nat.{mod-lt}
+use native.Mathlib.Nat.{mod-lt, mod-eq-of-lt}
 use native.Mathlib.Omega.{arith}
 use lib.Dec.{eqb, leb, ltb}
 use lib.ListN.{length, getD, take, set, length-set}
 use lib.Seq.{take-set-lt, length-take-le, getD-take}
-use borrow.Author.Tests.{leb-true, ltb-true, eqb-true, eqb-false, le-leb, lt-ltb, eq-eqb, not-false}
+use borrow.Author.Tests.{leb-true, ltb-true, ltb-false, eqb-true, eqb-false, le-leb, lt-ltb, eq-eqb, not-false}
 use Rattle.laws.specs.Lists.{every, total, same, distinct}
 use Rattle.laws.proofs.Tests.{both, neither, holds, eqb-swap}
 use Rattle.laws.proofs.Every.{every-passes, every-at, every-snoc}
@@ -23,16 +23,17 @@ use Rattle.machine.specs.declared.Entry.{Entry}
 use Rattle.machine.specs.State.{Machine, under, withCore, withQueue, passes}
 use Rattle.machine.specs.Names.{names, slot, isNew, seventeenth, register, registered, numbered}
 use Rattle.machine.specs.Queue.{entry, unpackedEntry, front, pop, push, started}
-use Rattle.machine.specs.Soundness.{validSize, validQueue, freshChecks, headerTests, soundHeader, soundEntry}
+use Rattle.machine.specs.Soundness.{validSize, validQueue, divides, validLimits, freshChecks, headerTests, soundHeader, soundEntry}
 use Rattle.machine.specs.Step.{counted}
 use Rattle.machine.proofs.Checks.{passed, accepts}
 use Rattle.machine.proofs.Names.{Shape, register-shape, length-names, take-held, names-register, Held, held-slot, held-register, new-register, held-not-new}
 
--- M and the memories' lengths as fresh takes them
+-- M, the memories' lengths and the limits as fresh takes them
 pub record Taken (rules : Rules) (core queue : List ℕ) : Type 0 where
   pub size : validSize (rules .size) ≡ true
   pub cells : length core ≡ rules .size
   pub slots : validQueue (length queue) ≡ true
+  pub limits : validLimits rules ≡ true
 
 pub is-taken : (rules : Rules) (core queue : List ℕ) → passes (freshChecks rules core queue) ≡ true → Taken rules core queue
 is-taken rules core queue e =
@@ -42,29 +43,43 @@ is-taken rules core queue e =
       size = not-false _ (p .0);
       cells = eqb-true _ _ (not-false (eqb (length core) (rules .size)) (two .0));
       slots = not-false (validQueue (length queue)) (two .1);
+      limits = not-false (validLimits rules) (p .1 .1 .0);
     }
 
 pub takes : (rules : Rules) (core queue : List ℕ) → Taken rules core queue → passes (freshChecks rules core queue) ≡ true
-takes rules core queue t = rw (t .size, eq-eqb (length core) (rules .size) (t .cells), t .slots)
+takes rules core queue t = rw (t .size, eq-eqb (length core) (rules .size) (t .cells), t .slots, t .limits)
 
--- as three tests
+-- as four tests
 pub taken-tests : (rules : Rules) (core queue : List ℕ)
-    → passes (freshChecks rules core queue) ≡ (validSize (rules .size) && (eqb (rules .size) (length core) && validQueue (length queue)))
+    → passes (freshChecks rules core queue)
+    ≡ (validSize (rules .size) && (eqb (rules .size) (length core) && (validQueue (length queue) && validLimits rules)))
 taken-tests rules core queue =
-    go (validSize (rules .size)) (eqb (length core) (rules .size)) (validQueue (length queue))
-    ∙ ap (λ (b : Bool). validSize (rules .size) && (b && validQueue (length queue))) (eqb-swap (length core) (rules .size))
+    go (validSize (rules .size)) (eqb (length core) (rules .size)) (validQueue (length queue)) (validLimits rules)
+    ∙ ap (λ (b : Bool). validSize (rules .size) && (b && (validQueue (length queue) && validLimits rules))) (eqb-swap (length core) (rules .size))
   where
-    go : (a b c : Bool) → (not (not a) && (not (not b || not c) && true)) ≡ (a && (b && c))
-    go false b c = refl
-    go true false c = refl
-    go true true false = refl
-    go true true true = refl
+    go : (a b c d : Bool) → (not (not a) && (not (not b || not c) && (not (not d) && true))) ≡ (a && (b && (c && d)))
+    go false b c d = refl
+    go true false c d = refl
+    go true true false d = refl
+    go true true true false = refl
+    go true true true true = refl
+
+-- a limit that divides M is 1 to M
+pub divisor-at-most : (limit size : ℕ) → 0 < size → divides limit size ≡ true → (0 < limit) × (limit ≤ size)
+divisor-at-most limit size pos d =
+    let t = both (leb 1 limit) (eqb (size % limit) 0) d in
+    (leb-true _ _ (t .0), go (ltb size limit) refl (eqb-true _ _ (t .1)))
+  where
+    go : (b : Bool) → ltb size limit ≡ b → size % limit ≡ 0 → limit ≤ size
+    go true e z = let s : size ≡ 0 = sym (mod-eq-of-lt (ltb-true _ _ e)) ∙ z in omega arith
+    go false e z = ltb-false _ _ e
 
 -- each test of a sound header
 pub record Tested (m : Machine) : Type 0 where
   pub size : validSize (m .header .rules .size) ≡ true
   pub core : length (m .core) ≡ m .header .rules .size
   pub queue : validQueue (length (m .queue)) ≡ true
+  pub limits : validLimits (m .header .rules) ≡ true
   pub limit : m .header .ring .length ≤ length (m .queue)
   pub head : m .header .ring .head < length (m .queue)
   pub few : m .header .names .held ≤ 16
@@ -82,6 +97,7 @@ tested m e =
       size = t .size;
       core = t .cells;
       queue = t .slots;
+      limits = t .limits;
       limit = leb-true _ _ (h .1 .0);
       head = ltb-true _ _ (h .1 .1 .0);
       few = leb-true _ _ (h .1 .1 .1 .0);
@@ -97,6 +113,7 @@ pub record SoundHeader (m : Machine) : Type 0 where
   pub size : validSize (m .header .rules .size) ≡ true
   pub core : length (m .core) ≡ m .header .rules .size
   pub queue : validQueue (length (m .queue)) ≡ true
+  pub limits : validLimits (m .header .rules) ≡ true
   pub limit : m .header .ring .length ≤ length (m .queue)
   pub head : m .header .ring .head < length (m .queue)
   pub few : m .header .names .held ≤ 16
@@ -113,6 +130,7 @@ sound-header m s e =
       size = t .size;
       core = t .core;
       queue = t .queue;
+      limits = t .limits;
       limit = t .limit;
       head = t .head;
       few = t .few;
@@ -125,7 +143,7 @@ sound-header m s e =
 pub header-sound : (m : Machine) → SoundHeader m → soundHeader m ≡ true
 unfolding soundHeader
 header-sound m s =
-    let t = takes (m .header .rules) (m .core) (m .queue) (record { size = s .size; cells = s .core; slots = s .queue }) in
+    let t = takes (m .header .rules) (m .core) (m .queue) (record { size = s .size; cells = s .core; slots = s .queue; limits = s .limits }) in
     rw (t, le-leb _ _ (s .limit), lt-ltb _ _ (s .head), le-leb _ _ (s .few), s .lengths, s .bytes, s .unlike, eq-eqb _ _ (s .sum))
 
 module _ (m : Machine) (s : SoundHeader m) where
@@ -177,6 +195,7 @@ module _ (m : Machine) (s : SoundHeader m) where
         size = s .size;
         core = c;
         queue = rw q (s .queue);
+        limits = s .limits;
         limit = rw q l;
         head = rw q h;
         few = s .few;
@@ -230,6 +249,7 @@ module _ (m : Machine) (s : SoundHeader m) (core : List ℕ) (c : length core �
           size = s .size;
           core = c;
           queue = s .queue;
+          limits = s .limits;
           limit = s .limit;
           head = s .head;
           few = omega arith;

@@ -1,4 +1,4 @@
--- What an instruction does with its registers (01, 'One step').
+-- What an instruction does with its registers (01, 'One step'; 02, A.2).
 -- Believed. Assumes nothing.
 use Prim.Native.Nat.{ℕ, zero, suc, _-_, _*_, _/_, _%_}
 use mathlib.Core.Bool.{Bool, true, false, cond, not, _&&_, _||_}
@@ -28,7 +28,7 @@ pub record Effect : Type 0 where
   pub cell : Option Cell
   pub next : Next
 
--- the executed instruction's modifier, PC, the A pointer, both registers, the live cell at the B pointer and the target, which are one
+-- the executed instruction's modifier, PC, the A read pointer, both registers, the live cell, which is at the B read pointer, and the target, at the B write pointer
 pub record Scene : Type 0 where
   pub size : ℕ
   pub modifier : ℕ

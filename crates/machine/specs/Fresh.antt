@@ -1,4 +1,4 @@
--- The fresh machine (01, 'Queue and names').
+-- The fresh machine (01, 'Queue and names'; 02, A.2).
 -- Believed. Assumes nothing.
 use Prim.Native.Nat.{ℕ}
 use mathlib.Core.List.{List}

@@ -1,4 +1,4 @@
--- One instruction, from the core and its site alone: both operands, then what it does (01, 'Pointers', 'One step').
+-- One instruction, from the core and its site alone: both operands, then what it does (01, 'Pointers', 'One step'; 02, A.2).
 -- Believed. Assumes nothing.
 use Prim.Native.Nat.{ℕ}
 use mathlib.Core.List.{List, [], _∷_, _++_}
@@ -22,14 +22,12 @@ bOperand s core =
     let a = aOperand s core in
     operand s (a .core) (fetched core (s .pc) .«b_mode») (fetched (a .core) (s .pc) .b .0)
 
--- jumps and comparisons look where the pointers read, stores go where the B pointer writes
-abbrev pub sceneAt : Site → List ℕ → Scene
-sceneAt s core =
-    let a = aOperand s core in
-    let b = bOperand s core in
+-- copies and jumps use the read pointer, stores the write pointer; the live cell is the one at the B read pointer
+abbrev pub sceneOf : Site → Cell → Operand → Operand → Scene
+sceneOf s ir a b =
     record {
       size = s .rules .size;
-      modifier = fetched core (s .pc) .modifier;
+      modifier = ir .modifier;
       pc = s .pc;
       jump = a .read;
       ra = a .register;
@@ -37,9 +35,6 @@ sceneAt s core =
       live = cellAt (b .core) (b .read);
       target = cellAt (b .core) (b .write);
     }
-
-abbrev pub effectAt : Site → List ℕ → Effect
-effectAt s core = effectOf (fetched core (s .pc) .opcode) (sceneAt s core)
 
 -- the target cell, stored; one write if any target field is stored
 abbrev pub storeTo : Option Cell → List ℕ → ℕ → List ℕ
@@ -50,17 +45,39 @@ abbrev pub storedAt : Option Cell → ℕ → List ℕ
 storedAt none place = []
 storedAt (some c) place = place ∷ []
 
+-- the instruction executed with its two operands: its effect, the core afterwards, the words of the other cells read;
+-- and the places written: by the A operand, by the B operand, by the store
+pub record Instructed : Type 0 where
+  pub effect : Effect
+  pub core : List ℕ
+  pub seen : List ℕ
+  pub written : List ℕ
+
+abbrev pub instructed : Site → Cell → Operand → Operand → Instructed
+instructed s ir a b =
+    let e = effectOf (ir .opcode) (sceneOf s ir a b) in
+    record {
+      effect = e;
+      core = storeTo (e .cell) (b .core) (b .write);
+      seen = a .seen ++ b .seen;
+      written = a .written ++ (b .written ++ storedAt (e .cell) (b .write));
+    }
+
+-- the instruction at PC
+abbrev pub instructedAt : Site → List ℕ → Instructed
+instructedAt s core = instructed s (fetched core (s .pc)) (aOperand s core) (bOperand s core)
+
+abbrev pub sceneAt : Site → List ℕ → Scene
+sceneAt s core = sceneOf s (fetched core (s .pc)) (aOperand s core) (bOperand s core)
+
+abbrev pub effectAt : Site → List ℕ → Effect
+effectAt s core = instructedAt s core .effect
+
 abbrev pub coreAt : Site → List ℕ → List ℕ
-coreAt s core =
-    let b = bOperand s core in
-    storeTo (effectAt s core .cell) (b .core) (b .write)
+coreAt s core = instructedAt s core .core
 
--- the words of the other cells read
 abbrev pub seenAt : Site → List ℕ → List ℕ
-seenAt s core = aOperand s core .seen ++ bOperand s core .seen
+seenAt s core = instructedAt s core .seen
 
--- the places written: by the A operand, by the B operand, by the store
 abbrev pub writtenAt : Site → List ℕ → List ℕ
-writtenAt s core =
-    let b = bOperand s core in
-    aOperand s core .written ++ (b .written ++ storedAt (effectAt s core .cell) (b .write))
+writtenAt s core = instructedAt s core .written

@@ -9,4 +9,6 @@ pub mod Execution
 pub mod Instruction
 pub mod Step
 pub mod Run
+pub mod Whole
 pub mod Battles
+pub mod inner

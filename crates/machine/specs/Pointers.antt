@@ -1,7 +1,9 @@
--- One operand (01, 'Cells' for the modes, 'Pointers').
+-- One operand (01, 'Cells' for the modes, 'Pointers'; 02, A.2).
 -- Believed. Assumes nothing.
-use Prim.Native.Nat.{ℕ, _-_}
+use Prim.Native.Nat.{ℕ, _+_, _-_, _/_, _%_}
+use mathlib.Core.Bool.{cond}
 use mathlib.Core.List.{List, [], _∷_}
+use lib.Dec.{ltb}
 use lib.ListN.{getD}
 use Rattle.cell.specs.declared.Cell.{Cell}
 use Rattle.offset.specs.Offset.{ahead}
@@ -31,24 +33,35 @@ fieldOf here = B
 fieldOf there = B
 fieldOf (through f) = f
 
+-- where an instruction is executed: the rules and PC
+pub record Site : Type 0 where
+  pub rules : Rules
+  pub pc : ℕ
+
+abbrev pub siteAt : Rules → ℕ → Site
+siteAt rules pc = record { rules = rules; pc = pc }
+
+-- a pointer p, taken from PC, mod the limit folds to r; when r is over half the limit (halved downward), M − limit is added
+abbrev pub fold : ℕ → ℕ → ℕ → ℕ
+fold limit size p = let r = p % limit in cond (ltb (limit / 2) r) (r + (size - limit)) r
+
+-- location: PC + the number folded
+abbrev pub located : Site → ℕ → ℕ → ℕ
+located s limit n = ahead (s .rules .size) (s .pc) (fold limit (s .rules .size) n)
+
+-- the pointer at the end of a chain: PC for `#`, the location for `$`; else the number folded, then the folded sum with the number found
+abbrev pub pointed : Reach → Site → ℕ → ℕ → List ℕ → ℕ
+pointed here s limit n core = s .pc
+pointed there s limit n core = located s limit n
+pointed (through f) s limit n core =
+    located s limit (fold limit (s .rules .size) n + number f (cellAt core (located s limit n)))
+
 -- one less and one more, mod M
 abbrev pub less : ℕ → ℕ → ℕ
 less size x = ahead size x (size - 1)
 
 abbrev pub more : ℕ → ℕ → ℕ
 more size x = ahead size x 1
-
--- the number found there (minus 1 for `{ <`)
-abbrev pub used : Shift → ℕ → ℕ → ℕ
-used keeps size found = found
-used lowers size found = less size found
-used raises size found = found
-
--- pointer: PC for `#`, the location for `$`, else location + number
-abbrev pub pointerOf : Reach → ℕ → ℕ → ℕ → ℕ → ℕ
-pointerOf here size pc location n = pc
-pointerOf there size pc location n = location
-pointerOf (through f) size pc location n = ahead size location n
 
 -- the core with another number in a field of the cell at a place
 abbrev pub changed : List ℕ → ℕ → Field → ℕ → List ℕ
@@ -72,15 +85,7 @@ shifted keeps location = []
 shifted lowers location = location ∷ []
 shifted raises location = location ∷ []
 
--- where an instruction is executed: the rules and PC
-pub record Site : Type 0 where
-  pub rules : Rules
-  pub pc : ℕ
-
-abbrev pub siteAt : Rules → ℕ → Site
-siteAt rules pc = record { rules = rules; pc = pc }
-
--- the core afterwards; the pointer, for reading and for writing; the register; the words of the cells read; the places written
+-- the core afterwards; the read pointer and the write pointer; the register; the words of the cells read; the places written
 pub record Operand : Type 0 where
   pub core : List ℕ
   pub read : ℕ
@@ -89,22 +94,25 @@ pub record Operand : Type 0 where
   pub seen : List ℕ
   pub written : List ℕ
 
--- location: PC + number. Pointer. Then the decrement; the register is a copy of the cell at the pointer; then the increment
+-- a decrement is made at the write location first; both chains then read the numbers they find, with no further minus 1;
+-- the register is a copy of the cell at the read pointer; then the increment, at the write location.
+-- The cells read are those of both chains: at two locations, and at two pointers
 unfoldable pub operand : Site → List ℕ → ℕ → ℕ → Operand
 operand s core mode n =
     let size = s .rules .size in
     let reach = getD reaches mode here in
     let shift = getD shifts mode keeps in
     let f = fieldOf reach in
-    let location = ahead size (s .pc) n in
+    let location = located s (s .rules .write) n in
     let found = number f (cellAt core location) in
-    let pointer = pointerOf reach size (s .pc) location (used shift size found) in
     let lowered = before shift size core location f found in
+    let read = pointed reach s (s .rules .read) n lowered in
+    let write = pointed reach s (s .rules .write) n lowered in
     record {
       core = after shift size lowered location f found;
-      read = pointer;
-      write = pointer;
-      register = cellAt lowered pointer;
-      seen = getD core location 0 ∷ getD lowered pointer 0 ∷ [];
+      read = read;
+      write = write;
+      register = cellAt lowered read;
+      seen = getD core (located s (s .rules .read) n) 0 ∷ getD core location 0 ∷ getD lowered read 0 ∷ getD lowered write 0 ∷ [];
       written = shifted shift location;
     }

@@ -1,6 +1,6 @@
--- What fresh takes, and the sound record (01, 'What a call gives back', under the table).
+-- What fresh takes, and the sound record (01, 'What a call gives back', under the table; 02, A.2).
 -- Believed. Assumes nothing. That steps taken and next thread numbers are at most 4,294,967,295 holds by their type, u32.
-use Prim.Native.Nat.{ℕ, _/_, _^_}
+use Prim.Native.Nat.{ℕ, _/_, _%_, _^_}
 use mathlib.Core.Bool.{Bool, not, _&&_, _||_}
 use mathlib.Core.List.{List, [], _∷_}
 use lib.Dec.{eqb, leb, ltb}
@@ -21,15 +21,23 @@ validSize size = leb 1 size && leb size 46341
 abbrev pub validQueue : ℕ → Bool
 validQueue slots = leb 1 slots && leb slots 65535
 
--- order of fresh: 1, 2
+-- not 14: a read limit and a write limit, each a divisor of M; 0 divides no M
+abbrev pub divides : ℕ → ℕ → Bool
+divides limit size = leb 1 limit && eqb (size % limit) 0
+
+abbrev pub validLimits : Rules → Bool
+validLimits rules = divides (rules .read) (rules .size) && divides (rules .write) (rules .size)
+
+-- order of fresh: 1, 2, 14
 abbrev pub freshChecks : Rules → List ℕ → List ℕ → List Check
 freshChecks rules core queue =
     check (not (validSize (rules .size))) 1
     ∷ check (not (eqb (length core) (rules .size)) || not (validQueue (length queue))) 2
+    ∷ check (not (validLimits rules)) 14
     ∷ []
 
--- a header is sound when M and the memories' lengths are such as fresh takes: M is valid and is the core memory's length, the queue
--- memory has 1 to 65,535 entries; length is at most that and head below it, at most 16 names are held, each valid, not empty and unlike the others,
+-- a header is sound when M, the memories' lengths and the limits are such as fresh takes: M is valid and is the core memory's length, the queue
+-- memory has 1 to 65,535 entries, each limit divides M; length is at most the queue memory's and head below it, at most 16 names are held, each valid, not empty and unlike the others,
 -- and the names' counts sum to the length
 abbrev pub headerTests : Machine → List Bool
 headerTests m =

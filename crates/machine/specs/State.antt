@@ -9,9 +9,9 @@ use Rattle.laws.specs.Lists.{every}
 use Rattle.machine.specs.declared.Header.{Header}
 use Rattle.machine.specs.declared.Rules.{Rules}
 
--- the rules of a core of that size
+-- the rules of a core of that size, with both limits M
 abbrev pub ofSize : ℕ → Rules
-ofSize size = record { size = size }
+ofSize size = record { size = size; read = size; write = size }
 
 -- the core memory, the queue memory and the header
 pub record Machine : Type 0 where

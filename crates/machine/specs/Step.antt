@@ -82,34 +82,40 @@ nextTold (ends x) left place = cond (eqb left 0) (endTold x place) (gives 0 0)
 nextTold (goes p) left place = gives 0 0
 nextTold (splits p c) left place = gives 0 0
 
--- pop, count one step, execute, push
-unfoldable pub executed : Machine → Outcome
-executed m =
+-- pop, count one step, execute, push: of the effect, the core afterwards and the writes
+abbrev pub executedBy : Effect → List ℕ → ℕ → Machine → Outcome
+executedBy x core writes m =
     let e = popped m in
-    let n = counted (coreAfter m) (pop m) in
-    let q = queued (effect m .next) e n in
+    let n = counted core (pop m) in
+    let q = queued (x .next) e n in
     let left = getD (n .header .counts) (e .name) 0 in
-    let answer = nextTold (effect m .next) left (pc m) in
+    let answer = nextTold (x .next) left (pc m) in
     record {
       machine = q .machine;
       number = answer .number;
       value = answer .value;
-      writes = stepWrites m;
+      writes = writes;
       steps = 1;
       pushes = q .pushes;
     }
 
--- after the header's 9: 7, 9 (front entry), 8, 9 (executed cell), 10, 9 (other cells read)
-abbrev pub nextChecks : Machine → List Check
-nextChecks m =
+unfoldable pub executed : Machine → Outcome
+executed m = executedBy (effect m) (coreAfter m) (stepWrites m) m
+
+-- after the header's 9: 7, 9 (front entry), 8, 9 (executed cell), 10, 9 (other cells read, told whether they are sound)
+abbrev pub checksBy : Bool → Machine → List Check
+checksBy sound m =
     let h = m .header in
     check (eqb (h .ring .length) 0) 7
     ∷ check (not (soundFront m)) 9
     ∷ check (eqb (h .steps) 4294967295 || eqb (getD (h .threads) (popped m .name) 0) 4294967295) 8
     ∷ check (not (soundWord (h .rules .size) (getD (m .core) (pc m) 0))) 9
     ∷ check (among (LDP ∷ STP ∷ []) (instruction m .opcode)) 10
-    ∷ check (not (every (soundWord (h .rules .size)) (seenAt (site m) (m .core)))) 9
+    ∷ check (not sound) 9
     ∷ []
+
+abbrev pub nextChecks : Machine → List Check
+nextChecks m = checksBy (every (soundWord (m .header .rules .size)) (seenAt (site m) (m .core))) m
 
 -- 9 (header) comes first
 abbrev pub stepChecks : Machine → List Check

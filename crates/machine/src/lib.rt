@@ -5,10 +5,12 @@ use offset::Absolute;
 
 pub mod limits;
 
-// What fresh fixes and no call changes: the core's size.
+// What fresh fixes and no call changes: the core's size, the read limit and the write limit (02, A.2).
 #[repr(C)]
 pub struct Rules {
     pub size: u32,
+    pub read: u32,
+    pub write: u32,
 }
 
 // Where the ring of queued processes begins, and how many entries it has.
