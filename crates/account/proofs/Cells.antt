@@ -15,7 +15,7 @@ use Rattle.offset.specs.Offset.{ahead}
 use Rattle.cell.specs.Cells.{packed, freshCell}
 use Rattle.machine.specs.State.{Machine}
 use Rattle.machine.specs.Load.{placed}
-use Rattle.machine.specs.Pointers.{Shift, keeps, lowers, raises, shifts, less, more, changed, before, after, shifted, Site, operand}
+use Rattle.machine.specs.Pointers.{Shift, keeps, lowers, raises, shifts, located, less, more, changed, before, after, shifted, Site, operand}
 use Rattle.machine.specs.Instruction.{storeTo, storedAt}
 use Rattle.machine.specs.Step.{operandA, operandB, effect, coreAfter, stepWrites}
 use Rattle.machine.proofs.Step.{step-writes}
@@ -33,7 +33,7 @@ shift-cells raises size core l f x = let h : differing (changed core l f (more s
 operand-cells : (s : Site) (core : List ℕ) (mode n : ℕ)
     → differing (operand s core mode n .core) ≤ differing core + length (operand s core mode n .written)
 unfolding operand
-operand-cells s core mode n = shift-cells (getD shifts mode keeps) (s .rules .size) core (ahead (s .rules .size) (s .pc) n) _ _
+operand-cells s core mode n = shift-cells (getD shifts mode keeps) (s .rules .size) core (located s (s .rules .write) n) _ _
 
 store-cells : (c : Option Cell) (core : List ℕ) (p : ℕ) → differing (storeTo c core p) ≤ differing core + length (storedAt c p)
 store-cells none core p = omega arith

@@ -10,7 +10,9 @@ use Rattle.machine.specs.declared.Rules.{Rules}
 use Rattle.machine.specs.State.{Machine}
 use Rattle.machine.specs.Fresh.{fresh}
 use Rattle.machine.specs.Step.{executes}
+use Rattle.machine.specs.Whole.{Unlimited}
 use Rattle.machine.proofs.Battles.{battles-prove}
+use Rattle.machine.proofs.Whole.{whole}
 use Rattle.lent.specs.Given.{Given}
 use Rattle.account.specs.Calls.{Step, Event, left, reported}
 use Rattle.account.specs.Lists.{outcomeOf, spread, loggedOf}
@@ -59,11 +61,11 @@ draft-made : (m : Machine) (g : Given) → Promise Step m g → executes (g .tol
 draft-made m g e t d =
     subst (λ (x : Given). executes (x .told .number) ≡ true → Drafted m (x .machine)) (sym e) (λ t. agreement m t d) t
 
-rust-made : (rules : Rules) (core queue : List ℕ) (m : Machine) → JustMade rules core queue m
+rust-made : (rules : Rules) (core queue : List ℕ) (m : Machine) → Unlimited rules → JustMade rules core queue m
     → (c : Core) × (new (rules .size) ≡ some c) × ((made : List Reply) → Made made m → Domain (spread (calls made) m) m → MadeAgrees made m c)
-rust-made rules core queue m started =
+rust-made rules core queue m u started =
     let s = just-made rules core queue m started in
-    let r = refinement rules core queue (s .0) in (
+    let r = refinement rules core queue u (s .0) in (
       r .0,
       r .1,
       λ made h d.
@@ -103,6 +105,7 @@ pub facts : Facts
 facts =
     record {
       spread = spreads;
+      whole = whole;
       no-entry-left = no-entry-left;
       no-entry-left-says = no-entry-left-says;
       runs-on = runs-on;

@@ -64,14 +64,14 @@ step-refuses m g e =
 
 module _ (rules : Rules) (core queue : List ℕ) where
   numbers : (n v : ℕ) → first (freshChecks rules core queue) ≡ refusal n v → eqb n 0 ≡ false
-  numbers = number-of (λ n. eqb n 0 ≡ false) (freshChecks rules core queue) (refl and refl and tt)
+  numbers = number-of (λ n. eqb n 0 ≡ false) (freshChecks rules core queue) (refl and refl and refl and tt)
 
   pub fresh-refuses : (g : Given) → FreshPromise rules core queue g → Refused (freshChecks rules core queue) (0 ∷ []) (lent core queue) g
   unfolding fresh
   fresh-refuses g e =
       subst (Refused (freshChecks rules core queue) (0 ∷ []) (lent core queue)) (sym e)
       (settled (freshChecks rules core queue) (0 ∷ []) (lent core queue) (done (freshMachine rules core queue) 0 0)
-      (number-of (λ n. among (0 ∷ []) n ≡ false) (freshChecks rules core queue) (refl and refl and tt)) refl)
+      (number-of (λ n. among (0 ∷ []) n ≡ false) (freshChecks rules core queue) (refl and refl and refl and tt)) refl)
 
   pub exported-fresh-refuses : (number : ℕ) (m : Machine) → FreshNumber rules core queue number m → FreshRefused rules core queue number m
   unfolding fresh

@@ -18,6 +18,7 @@ use Rattle.machine.specs.Battles.{BattlesHold}
 use Rattle.machine.specs.Fresh.{fresh, lent}
 use Rattle.machine.specs.Load.{loadChecks}
 use Rattle.machine.specs.Step.{stepChecks, executes}
+use Rattle.machine.specs.Whole.{Unlimited, Whole}
 use Rattle.lent.specs.Given.{Given}
 use Rattle.account.specs.Calls.{Load, Step, Run, left, reported}
 use Rattle.account.specs.Lists.{outcomeOf, spread, loggedOf, Spread}
@@ -46,7 +47,7 @@ use Rattle.demands.specs.Refusals.{Refused, FreshRefused, CellRefused, R
 -- That a call ends and stays inside the lent memory holds by the language, of every function that is proved; `Keeps` says it of each of these.
 -- The theorem is `demand-1` (proofs/Demands.antt)
 pub record Demand1 : Type 0 where
-  -- Fresh: 1, 2
+  -- Fresh: 1, 2, 14
   pub fresh : (rules : Rules) (core queue : List ℕ) (g : Given) → FreshPromise rules core queue g → Refused (freshChecks rules core queue) (0 ∷ []) (lent core queue) g
   pub fresh-exported : (rules : Rules) (core queue : List ℕ) (number : ℕ) (m : Machine) → FreshNumber rules core queue number m → FreshRefused rules core queue number m
   -- Load: 9 (header), 3, 4, 5, 6, 8
@@ -74,7 +75,7 @@ pub record Demand1 : Type 0 where
 
 -- DEMAND 2. The theorem is `demand-2` (proofs/Demands.antt)
 pub record Demand2 : Type 2 where
-  -- The draft, where no departure (crates/draft/specs/Departures.antt) applies: an executed step, in a run too, changes the core as the draft's does and queues
+  -- The draft, with the machine's limits, where no departure (crates/draft/specs/Departures.antt) applies: an executed step, in a run too, changes the core as the draft's does and queues
   -- its next places; and so does a step that the program made
   pub draft : Agreement
   pub draft-made : (m : Machine) (g : Given) → Promise Step m g → executes (g .told .number) ≡ true → departs m ≡ false → Drafted m (g .machine)
@@ -83,9 +84,9 @@ pub record Demand2 : Type 2 where
   pub battles : BattlesHold
   pub code : CodeKeeps
   pub machine : (made : List Reply) (m : Machine) → Made made m → (last made m ≡ left outcomeOf (calls made) m) × (written made ≡ reported outcomeOf (calls made) m)
-  -- The Rust, in its domain: core, queue, thread numbers, counts, steps and ending; and so for the program
+  -- The Rust, in its domain, both limits M: core, queue, thread numbers, counts, steps and ending; and so for the program
   pub rust : Refinement
-  pub rust-made : (rules : Rules) (core queue : List ℕ) (m : Machine) → JustMade rules core queue m
+  pub rust-made : (rules : Rules) (core queue : List ℕ) (m : Machine) → Unlimited rules → JustMade rules core queue m
       → (c : Core) × (new (rules .size) ≡ some c) × ((made : List Reply) → Made made m → Domain (spread (calls made) m) m → MadeAgrees made m c)
   -- Round trips: what was written reads back
   pub first-reads : FirstReads
@@ -105,11 +106,12 @@ Demand3 =
     → (made : List Reply) → Made made m
     → Account (last made m) (written made) (loggedOf (calls made) (fresh rules ownCore ownQueue .machine) [])
 
--- BESIDE THE DEMANDS. A match loaded in one call counts as the single loads that it made; what the mission tells apart, that a name has no entry left and
--- that one entry of a name has ended; and that no call answers 9.
+-- BESIDE THE DEMANDS. A match loaded in one call counts as the single loads that it made; with both limits M all is as before; what the mission tells
+-- apart, that a name has no entry left and that one entry of a name has ended; and that no call answers 9.
 -- The theorem is `facts` (proofs/Demands.antt)
 pub record Facts : Type 0 where
   pub spread : Spread
+  pub whole : Whole
   pub no-entry-left : NoEntryLeft
   pub no-entry-left-says : NoEntryLeftSays
   pub runs-on : RunsOn

@@ -6,7 +6,7 @@ use mathlib.Core.List.{map}
 use Rattle.laws.specs.Lists.{every}
 use Rattle.draft.specs.inner.Battles.{Battle, seen, apart, battles}
 
-pub battles-differ : (map (λ (b : Battle). seen (b .warrior)) battles ≡ map (λ (b : Battle). b .told) battles)
+pub battles-differ : (map (λ (b : Battle). seen (b .rules) (b .warrior)) battles ≡ map (λ (b : Battle). b .told) battles)
     × (every (λ (b : Battle). apart (b .told)) battles ≡ true)
 unfolding seen
 battles-differ = (refl, refl)

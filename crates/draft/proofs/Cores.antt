@@ -1,22 +1,20 @@
--- Cores of words as cores of cells, and pointers folded by a limit of M as places.
+-- Cores of words as cores of cells.
 -- Assumes nothing.
-use Prim.Native.Nat.{ℕ, _+_, _-_, _/_, _%_, _<_}
+use Prim.Native.Nat.{ℕ, _<_}
 use mathlib.Core.Path.{_≡_, refl, sym, ap, _∙_}
-use mathlib.Core.Bool.{Bool, true, false, cond}
+use mathlib.Core.Bool.{Bool, true, false}
 use mathlib.Core.List.{List, map}
-use native.Mathlib.Nat.{mod-add-mod, add-mod-mod, add-assoc}
-use native.Mathlib.Omega.{arith}
-use lib.Dec.{eqb, ltb}
+use lib.Dec.{eqb}
 use borrow.Author.Tests.{eqb-true, eqb-false}
 use lib.ListN.{length, getD, set, List·getD-map}
 use Rattle.laws.proofs.Lists.{map-set}
 use Rattle.cell.specs.declared.Cell.{Cell}
-use Rattle.types.specs.Types.{Field, A, B}
-use Rattle.cell.specs.Cells.{packed, unpacked, number, withNumber}
+use Rattle.types.specs.Types.{Field, A}
+use Rattle.cell.specs.Cells.{packed, unpacked, withNumber}
 use Rattle.cell.proofs.Words.{InRange, word-range, with-range, unpack-pack}
 use Rattle.machine.specs.Pointers.{changed}
 use Rattle.machine.proofs.Pointers.{changed-same, changed-other}
-use Rattle.draft.specs.Evaluation.{Fold, at, assign}
+use Rattle.draft.specs.Evaluation.{at, assign}
 
 -- a cell stored
 pub stores : (core : List ℕ) (p : ℕ) {c : Cell} → InRange c → map unpacked (set core p (packed c)) ≡ set (map unpacked core) p c
@@ -31,27 +29,6 @@ pub changes : (f : Field) (core : List ℕ) (p x : ℕ) → x < 65536 → map un
 changes f core p x h =
     stores core p (with-range f x (unpacked (getD core p 0)) h (word-range (getD core p 0)))
     ∙ ap (λ (c : Cell). set (map unpacked core) p (withNumber f x c)) (sym (reads core p))
-
--- with a limit of M, a folded pointer is the pointer mod M
-fold-full : (p M : ℕ) → Fold p M M ≡ p % M
-fold-full p M = go (ltb (M / 2) (p % M)) (p % M)
-  where
-    go : (b : Bool) (x : ℕ) → cond b (x + (M - M)) x ≡ x
-    go true x = omega arith
-    go false x = refl
-
-pub place-direct : (PC n M : ℕ) → (PC + Fold n M M) % M ≡ (PC + n) % M
-place-direct PC n M = rw (fold-full n M, add-mod-mod PC n M)
-
-pub place-through : (PC n x M : ℕ) → (PC + Fold (Fold n M M + x) M M) % M ≡ ((PC + n) % M + x) % M
-place-through PC n x M =
-    place-direct PC (Fold n M M + x) M ∙ ap (λ (k : ℕ). k % M) (sym (add-assoc PC (Fold n M M) x)) ∙ sym (mod-add-mod (PC + Fold n M M) M x)
-    ∙ ap (λ (k : ℕ). (k + x) % M) (place-direct PC n M)
-
--- the number put in a field
-pub number-with : (f : Field) (x : ℕ) (c : Cell) → number f (withNumber f x c) ≡ x
-number-with A x c = refl
-number-with B x c = refl
 
 -- a change of an A number keeps every B number
 pub changed-b : (core : List ℕ) (p q x : ℕ) → p < length core → x < 65536

@@ -69,5 +69,5 @@ made : fresh (ofSize 8) (replicate 8 7) (replicate 4 9) .number ≡ 0
 unfolding fresh
 made = refl
 
-agrees : Agrees calls start (refinement (ofSize 8) (replicate 8 7) (replicate 4 9) made .0)
-agrees = refinement (ofSize 8) (replicate 8 7) (replicate 4 9) made .2 (map One calls) in-domain
+agrees : Agrees calls start (refinement (ofSize 8) (replicate 8 7) (replicate 4 9) (record { read = refl; write = refl }) made .0)
+agrees = refinement (ofSize 8) (replicate 8 7) (replicate 4 9) (record { read = refl; write = refl }) made .2 (map One calls) in-domain

@@ -1,4 +1,4 @@
--- One operand evaluated: the Rust's pointer, decrement, copy and increment are our operand. It changes no cell's codes.
+-- One operand evaluated: the Rust's pointer, decrement, copy and increment are our operand, where both limits are M. It changes no cell's codes.
 -- Assumes nothing.
 use Prim.Native.Nat.{ℕ, _%_, _≤_, _<_}
 use mathlib.Core.Path.{_≡_, refl, sym, ap, ap₂, subst, _∙_}
@@ -8,16 +8,19 @@ use native.Mathlib.Nat.{mod-lt}
 use native.Mathlib.Omega.{arith}
 use lib.Dec.{eqb}
 use lib.ListN.{length, getD, set}
-use borrow.Author.Tests.{eqb-true, eqb-false}
+use borrow.Author.Tests.{eqb-true, eqb-false, le-leb}
 use Rattle.cell.specs.declared.Cell.{Cell}
 use Rattle.offset.specs.Offset.{ahead}
 use Rattle.types.specs.Types.{Field, A, B}
 use Rattle.cell.specs.Cells.{unpacked, number, withNumber}
 use Rattle.offset.proofs.Offsets.{ahead-lt}
 use Rattle.cell.proofs.Words.{word-range}
-use Rattle.machine.specs.State.{ofSize}
-use Rattle.machine.specs.Pointers.{Reach, here, reaches, Shift, keeps, lowers, raises, shifts, fieldOf, less, more, used, pointerOf, changed, before, after, siteAt, Operand, operand}
-use Rattle.machine.proofs.Pointers.{changed-same, changed-other, length-before, SoundCore, fields-at, number-lt, pointer-lt}
+use Rattle.machine.specs.declared.Rules.{Rules}
+use Rattle.machine.specs.Soundness.{validSize}
+use Rattle.machine.specs.Pointers.{Reach, here, there, through, reaches, Shift, keeps, lowers, raises, shifts, fieldOf, less, more, changed, before, after, siteAt, Operand, operand}
+use Rattle.machine.specs.Whole.{used, pointerOf, former, SameOperand, Unlimited}
+use Rattle.machine.proofs.Pointers.{changed-same, changed-other, length-before, SoundCore, fields-at, number-lt}
+use Rattle.machine.proofs.Whole.{whole-operand}
 use Rattle.reference.specs.Types as Rust
 use Rattle.reference.specs.Types.{AddressMode, Immediate, Direct, IndirectA, IndirectB, PreDecIndirectA, PreDecIndirectB, PostIncIndirectA, PostIncIndirectB, Instruction}
 use Rattle.reference.specs.Offset.{offset, add-i32}
@@ -108,7 +111,16 @@ post-kept m core pc f mode e t =
 abbrev pub seen : Operand → Evaluated
 seen o = record { core = map wordOf (o .core); ptr = o .read; value = instructionOf (o .register) }
 
-module _ (size : ℕ) (small : size ≤ 46341) (core : List ℕ) (sound : SoundCore size core) where
+module _ (rules : Rules) (whole : Unlimited rules) (small : rules .size ≤ 46341) (core : List ℕ) (sound : SoundCore (rules .size) core) where
+  abbrev size : ℕ
+  size = rules .size
+
+  -- 01's operand is ours
+  same : 0 < size → (pc k n : ℕ) → SameOperand (operand (siteAt rules pc) core k n) (former (siteAt rules pc) core k n)
+  same some pc k n =
+      let valid : validSize size ≡ true = rw (le-leb 1 size some, le-leb size 46341 small) in
+      whole-operand (siteAt rules pc) core k n whole valid (sound .length)
+
   fits : 0 < size → (x : ℕ) → x % size < 65536
   fits some x = let h : x % size < size = mod-lt x some in omega arith
 
@@ -129,6 +141,14 @@ module _ (size : ℕ) (small : size ≤ 46341) (core : List ℕ) (sound : SoundC
     abbrev pointer : Shift → ℕ
     pointer shift = pointerOf reach size pc location (used shift size held)
 
+    pointer-lt : (shift : Shift) → pc < size → pointer shift < size
+    pointer-lt shift = go reach (used shift size held)
+      where
+        go : (r : Reach) (x : ℕ) → pc < size → pointerOf r size pc location x < size
+        go here x h = h
+        go there x h = ahead-lt size pc n (omega arith)
+        go (through f) x h = ahead-lt size location x (omega arith)
+
     abbrev result : Shift → Evaluated
     result shift = record { core = map wordOf (raised shift); ptr = pointer shift; value = wordOf (getD (lowered shift) (pointer shift) 0) }
 
@@ -146,9 +166,12 @@ module _ (size : ℕ) (small : size ≤ 46341) (core : List ℕ) (sound : SoundC
       raised-codes lowers j = changed-here (less size held) (fits some _) j
       raised-codes raises j = changed-here (more size held) (fits some _) j
 
-  pub operand-codes : 0 < size → (pc k n j : ℕ) → Codes (unpacked (getD (operand (siteAt (ofSize size) pc) core k n .core) j 0)) (unpacked (getD core j 0))
-  unfolding operand
-  operand-codes some pc k n j = raised-codes pc n (getD reaches k here) some (getD shifts k keeps) j
+  former-codes : 0 < size → (pc k n j : ℕ) → Codes (unpacked (getD (former (siteAt rules pc) core k n .core) j 0)) (unpacked (getD core j 0))
+  unfolding former
+  former-codes some pc k n j = raised-codes pc n (getD reaches k here) some (getD shifts k keeps) j
+
+  pub operand-codes : 0 < size → (pc k n j : ℕ) → Codes (unpacked (getD (operand (siteAt rules pc) core k n .core) j 0)) (unpacked (getD core j 0))
+  operand-codes some pc k n j = rw (same some pc k n .core) (former-codes some pc k n j)
 
   module _ (s : Field) (pc : ℕ) (pc-in : pc < size) where
     abbrev c : Cell
@@ -200,7 +223,7 @@ module _ (size : ℕ) (small : size ≤ 46341) (core : List ℕ) (sound : SoundC
       ptr = ap (resolve-pointer size (map wordOf core) pc) field-read ∙ pointer-is size small core sound pc n pc-in n-in m
 
       copy : get-offset (map wordOf (then m)) (pointer pc n (reachOf m) (shiftOf m)) ≡ result pc n (reachOf m) (shiftOf m) .value
-      copy = get-word (then m) _ (rw (then-long m) (pointer-lt size (reachOf m) pc (ahead size pc n) _ pc-in (ahead-lt size pc n some)))
+      copy = get-word (then m) _ (rw (then-long m) (pointer-lt pc n (reachOf m) (shiftOf m) pc-in))
 
     post : (m : AddressMode) → modeOf (mode s c) ≡ m
         → apply-pointer size (map wordOf (then m)) pc (field s (get-offset (map wordOf (then m)) pc)) Post ≡ result pc n (reachOf m) (shiftOf m) .core
@@ -220,8 +243,13 @@ module _ (size : ℕ) (small : size ≤ 46341) (core : List ℕ) (sound : SoundC
       value = (ap₂ get-offset (pre m e) (ptr m e) ∙ copy m e) i;
     }
 
-    pub evaluate-is : evaluate s size (map wordOf core) pc ≡ seen (operand (siteAt (ofSize size) pc) core (mode s c) n)
-    unfolding operand
-    evaluate-is =
+    evaluate-former : evaluate s size (map wordOf core) pc ≡ seen (former (siteAt rules pc) core (mode s c) n)
+    unfolding former
+    evaluate-former =
         evaluate-result (modeOf (mode s c)) refl
         ∙ sym (ap₂ (λ (r : Reach) (t : Shift). result pc n r t) (reach-is (mode s c) (mode-in s (getD core pc 0))) (shift-is (mode s c) (mode-in s (getD core pc 0))))
+
+    pub evaluate-is : evaluate s size (map wordOf core) pc ≡ seen (operand (siteAt rules pc) core (mode s c) n)
+    evaluate-is =
+        let o = same some pc (mode s c) n in
+        evaluate-former ∙ sym (λ i. record { core = map wordOf (o .core i); ptr = o .read i; value = instructionOf (o .register i) })

@@ -1,4 +1,4 @@
--- A pointer resolved and applied, by the Rust's mode: our pointer, decrement and increment.
+-- A pointer resolved and applied, by the Rust's mode: 01's pointer, decrement and increment.
 -- Assumes nothing.
 use Prim.Native.Nat.{ℕ, _%_, _≤_, _<_}
 use mathlib.Core.Path.{_≡_, refl, sym, ap, ap₂, _∙_}
@@ -17,7 +17,8 @@ use Rattle.cell.specs.Cells.{unpacked, number, withNumber}
 use Rattle.offset.proofs.Offsets.{ahead-lt}
 use Rattle.cell.proofs.Words.{word-range, with-range}
 use Rattle.cell.proofs.Soundness.{Sound}
-use Rattle.machine.specs.Pointers.{Reach, here, there, through, reaches, Shift, keeps, lowers, raises, shifts, fieldOf, used, pointerOf, changed, before, after}
+use Rattle.machine.specs.Pointers.{Reach, here, there, through, reaches, Shift, keeps, lowers, raises, shifts, fieldOf, changed, before, after}
+use Rattle.machine.specs.Whole.{used, pointerOf}
 use Rattle.machine.proofs.Pointers.{SoundCore, fields-at}
 use Rattle.reference.specs.Types as Rust
 use Rattle.reference.specs.Types.{AddressMode, Immediate, Direct, IndirectA, IndirectB, PreDecIndirectA, PreDecIndirectB, PostIncIndirectA, PostIncIndirectB, Instruction, default, set-a, set-b}

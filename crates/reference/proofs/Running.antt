@@ -1,7 +1,7 @@
 -- A run, from a same state: to a same state, with the Rust's answer.
 -- Assumes nothing.
 use Prim.Native.Nat.{ℕ, zero, suc, _+_, _-_}
-use mathlib.Core.Path.{_≡_, refl, ap, ap₂, _∙_}
+use mathlib.Core.Path.{_≡_, refl, sym, ap, ap₂, subst, _∙_}
 use mathlib.Core.Bool.{Bool, true, false, cond}
 use native.Mathlib.Omega.{arith}
 use lib.Dec.{eqb, ltb}
@@ -12,8 +12,9 @@ use Rattle.machine.specs.declared.Ceiling.the-variants.{Unsaid, Steps}
 use Rattle.machine.specs.State.{Machine, joined}
 use Rattle.machine.specs.Step.{step}
 use Rattle.machine.specs.Run.{plays, ceilingOf, run}
+use Rattle.machine.specs.Whole.{Unlimited}
 use Rattle.machine.proofs.Soundness.{header-sound}
-use Rattle.machine.proofs.Step.{step-executed}
+use Rattle.machine.proofs.Step.{step-executed, step-fixed}
 use Rattle.machine.proofs.Run.{run-plays}
 use Rattle.machine.proofs.SoundMachine.{SoundMachine, step-keeps}
 use Rattle.reference.specs.Process.{NoRemainingProcesses, ExecuteDat, DivideByZero}
@@ -35,10 +36,12 @@ not-ok n v e = simp e (go (eqb n 3) (eqb n 7) (eqb n 11) (eqb n 12))
     go false false false true = refl
     go false false false false = refl
 
-plays-agree : (k max : ℕ) (m : Machine) (c : Core) → SoundMachine m → Same m c → k ≡ max - m .header .steps
+plays-agree : (k max : ℕ) (m : Machine) (c : Core) → SoundMachine m → Unlimited (m .header .rules) → Same m c → k ≡ max - m .header .steps
     → answered (plays k m .number) ≡ true → meetsPlays k m ≡ false → Agreed (plays k m) (loop k max c)
-plays-agree zero max m c s same q a f = record { answer = refl; same = same }
-plays-agree (suc k) max m c s same q a f = go (eqb (step m .number) 0) refl a (free .1) (plays-agree k max (step m .machine) (Rust.step c .core) (step-keeps m s))
+plays-agree zero max m c s u same q a f = record { answer = refl; same = same }
+plays-agree (suc k) max m c s u same q a f =
+    go (eqb (step m .number) 0) refl a (free .1)
+    (plays-agree k max (step m .machine) (Rust.step c .core) (step-keeps m s) (subst Unlimited (sym (step-fixed m .0)) u))
   where
     Rest : Type 0
     Rest = Same (step m .machine) (Rust.step c .core) → k ≡ max - step m .machine .header .steps → answered (plays k (step m .machine) .number) ≡ true
@@ -62,7 +65,7 @@ plays-agree (suc k) max m c s same q a f = go (eqb (step m .number) 0) refl a (f
         zero-is = eqb-true _ _ e
 
         one : Agreed (step m) (Rust.step c)
-        one = step-agrees m c s same (ap answered zero-is) (free .0)
+        one = step-agrees m c s u same (ap answered zero-is) (free .0)
 
         counts : step m .machine .header .steps ≡ m .header .steps + 1
         counts = step-executed m (rw zero-is) .1 .steps
@@ -72,7 +75,7 @@ plays-agree (suc k) max m c s same q a f = go (eqb (step m .number) 0) refl a (f
     go false e a g r = rw (turn, ap is-ok (one .answer) ∙ not-ok (step m .number) (step m .value) e) one
       where
         one : Agreed (step m) (Rust.step c)
-        one = step-agrees m c s same a (free .0)
+        one = step-agrees m c s u same a (free .0)
 
 cycles-are : (ceiling : Ceiling) → max-cycles (cyclesOf ceiling) ≡ ceilingOf ceiling
 cycles-are Unsaid = refl
@@ -84,9 +87,9 @@ turns-are : (ceiling : Ceiling) (m : Machine) (c : Core) → Same m c
 unfolding Rust.run
 turns-are ceiling m c same = ap₂ (λ (x y : ℕ). loop (x - y) x c) (cycles-are ceiling) (same .steps-taken)
 
-pub run-agrees : (ceiling : Ceiling) (m : Machine) (c : Core) → SoundMachine m → Same m c
+pub run-agrees : (ceiling : Ceiling) (m : Machine) (c : Core) → SoundMachine m → Unlimited (m .header .rules) → Same m c
     → answered (run ceiling m .number) ≡ true → meetsPlays (ceilingOf ceiling - m .header .steps) m ≡ false
     → Agreed (run ceiling m) (Rust.run (cyclesOf ceiling) c)
-run-agrees ceiling m c s same =
+run-agrees ceiling m c s u same =
     rw (run-plays ceiling m (header-sound m (s .header)), turns-are ceiling m c same)
-    (plays-agree (ceilingOf ceiling - m .header .steps) (ceilingOf ceiling) m c s same refl)
+    (plays-agree (ceilingOf ceiling - m .header .steps) (ceilingOf ceiling) m c s u same refl)

@@ -1,4 +1,4 @@
--- One step, of a sound machine and from a same state: to a same state, with the Rust's answer.
+-- One step, of a sound machine with both limits M and from a same state: to a same state, with the Rust's answer.
 -- Assumes nothing.
 use Prim.Native.Nat.{ℕ, zero, suc, _+_, _^_, _<_}
 use mathlib.Core.Path.{_≡_, refl, ap, _∙_}
@@ -17,6 +17,7 @@ use Rattle.machine.specs.State.{Machine, Outcome, accepted, refusal, first}
 use Rattle.machine.specs.Queue.{entry, slots, entries, front, nameOf, full, pop, push, started}
 use Rattle.machine.specs.Execution.{Ending, dat, divisor, Next, ends, goes, splits}
 use Rattle.machine.specs.Step.{popped, pc, instruction, effect, coreAfter, counted, queued, nextTold, executed, stepChecks, step}
+use Rattle.machine.specs.Whole.{Unlimited}
 use Rattle.machine.proofs.Checks.{passed, only, other, others, without}
 use Rattle.machine.proofs.Names.{Held}
 use Rattle.machine.proofs.Soundness.{SoundHeader, size-small, push-sound}
@@ -52,7 +53,7 @@ alive dat place (suc n) = simp (le-ltb (suc n) 1 (omega arith), eqb·suc-zero n)
 alive divisor place zero = refl
 alive divisor place (suc n) = simp (le-ltb (suc n) 1 (omega arith), eqb·suc-zero n)
 
-module _ (m : Machine) (c : Core) (s : SoundMachine m) (same : Same m c) (e : first (stepChecks m) ≡ accepted) where
+module _ (m : Machine) (c : Core) (s : SoundMachine m) (whole : Unlimited (m .header .rules)) (same : Same m c) (e : first (stepChecks m) ≡ accepted) where
   abbrev h : Header
   h = m .header
 
@@ -78,7 +79,7 @@ module _ (m : Machine) (c : Core) (s : SoundMachine m) (same : Same m c) (e : fi
 
   counting-same : Same (counting m) rust
   unfolding coreAfter effect
-  counting-same = counted-same m c same r (coreAfter m) (execution .core) (execute-is m s pc-in opcode-in .core)
+  counting-same = counted-same m c same r (coreAfter m) (execution .core) (execute-is m s whole pc-in opcode-in .core)
 
   step-is : Rust.step c ≡ after (h .rules .size) (execution .result) (entryOf h (front m)) rust
   unfolding Rust.step
@@ -166,7 +167,7 @@ module _ (m : Machine) (c : Core) (s : SoundMachine m) (same : Same m c) (e : fi
   unfolding executed
   executed-agrees f =
       rw step-is
-      (let a = finish (effect m .next) (execution .result) (execute-is m s pc-in opcode-in .next) (next-places m (s .core) pc-in) f in
+      (let a = finish (effect m .next) (execution .result) (execute-is m s whole pc-in opcode-in .next) (next-places m (s .core) pc-in) f in
       record { answer = a .answer; same = a .same })
 
 -- refused in the domain: the queue is empty
@@ -187,9 +188,9 @@ nothing-popped m c s e =
     ap (λ (q : List Process.Entry). stepped c (Process.pop-from q (c .process-queue)))
     (s .queue ∙ ap (λ (n : ℕ). map (entryOf (m .header)) (slots (m .queue) (m .header .ring .head) n)) e)
 
-pub step-agrees : (m : Machine) (c : Core) → SoundMachine m → Same m c → answered (step m .number) ≡ true → meetsStep m ≡ false
+pub step-agrees : (m : Machine) (c : Core) → SoundMachine m → Unlimited (m .header .rules) → Same m c → answered (step m .number) ≡ true → meetsStep m ≡ false
     → Agreed (step m) (Rust.step c)
-step-agrees m c s same a f =
+step-agrees m c s whole same a f =
     step-by-cases (λ o. answered (o .number) ≡ true → Agreed o (Rust.step c)) m
     (λ n v e x a. rw (is-seven m n v e a, nothing-popped m c same (is-empty m n v e a)) (record { answer = refl; same = same }))
-    (λ e a. executed-agrees m c s same e f) a
+    (λ e a. executed-agrees m c s whole same e f) a

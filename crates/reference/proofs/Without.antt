@@ -12,6 +12,7 @@ use Rattle.machine.specs.State.{Machine}
 use Rattle.machine.specs.Load.{load}
 use Rattle.machine.specs.Step.{step, executes}
 use Rattle.machine.specs.Run.{plays, ceilingOf, run}
+use Rattle.machine.specs.Whole.{Unlimited}
 use Rattle.machine.proofs.Soundness.{header-sound}
 use Rattle.machine.proofs.Load.{load-refused}
 use Rattle.machine.proofs.Step.{step-refused}
@@ -49,10 +50,10 @@ not-done n a = go (eqb n 0) refl
     go false e = refl
 
 -- of a run, the Rust's run to its last step
-run-without : (ceiling : Ceiling) (m : Machine) (c : Core) → SoundMachine m → Same m c → answered (run ceiling m .number) ≡ false
+run-without : (ceiling : Ceiling) (m : Machine) (c : Core) → SoundMachine m → Unlimited (m .header .rules) → Same m c → answered (run ceiling m .number) ≡ false
     → meetsPlays (run ceiling m .steps) m ≡ false
     → (without (Run ceiling) m c .answer ≡ Ok) × Same (run ceiling m .machine) (without (Run ceiling) m c .core)
-run-without ceiling m c s same a f =
+run-without ceiling m c s u same a f =
     (agreed .answer ∙ ap (λ (n : ℕ). answerOf n (run to m .value)) answer, subst (λ (n : Machine). Same n (without (Run ceiling) m c .core)) leaves (agreed .same))
   where
     k : ℕ
@@ -80,11 +81,11 @@ run-without ceiling m c s same a f =
     leaves = ap (λ o. o .machine) is ∙ sym (inside .2)
 
     agreed : Agreed (run to m) (without (Run ceiling) m c)
-    agreed = run-agrees to m c s same (ap answered answer) (ap (λ (n : ℕ). meetsPlays n m) turns ∙ f)
+    agreed = run-agrees to m c s u same (ap answered answer) (ap (λ (n : ℕ). meetsPlays n m) turns ∙ f)
 
-pub without-agrees : (x : Call) (m : Machine) (c : Core) → SoundMachine m → Same m c → answered (outcome x m .number) ≡ false → meetsBefore x m ≡ false
+pub without-agrees : (x : Call) (m : Machine) (c : Core) → SoundMachine m → Unlimited (m .header .rules) → Same m c → answered (outcome x m .number) ≡ false → meetsBefore x m ≡ false
     → (without x m c .answer ≡ Ok) × Same (outcome x m .machine) (without x m c .core)
-without-agrees (Load name body origin place) m c s same a f =
+without-agrees (Load name body origin place) m c s u same a f =
     (refl, subst (λ (n : Machine). Same n c) (sym (load-refused m name body origin place (not-done (load m name body origin place .number) a) .machine)) same)
-without-agrees Step m c s same a f = (refl, subst (λ (n : Machine). Same n c) (sym (step-refused m (not-executed (step m .number) a) .machine)) same)
-without-agrees (Run ceiling) m c s same a f = run-without ceiling m c s same a f
+without-agrees Step m c s u same a f = (refl, subst (λ (n : Machine). Same n c) (sym (step-refused m (not-executed (step m .number) a) .machine)) same)
+without-agrees (Run ceiling) m c s u same a f = run-without ceiling m c s u same a f

@@ -1,4 +1,4 @@
--- The Rust's domain (01, its last sentence before 'Departures from the draft'), and the statement that our machine agrees with the Rust there.
+-- The Rust's domain (01, its last sentence before 'Departures from the draft'; 02, A.2: both limits M), and the statement that our machine agrees with the Rust there.
 -- Believed. Assumes nothing.
 use Prim.Native.Nat.{ℕ, zero, suc, _-_, _≤_}
 use mathlib.Core.Path.{_≡_}
@@ -16,6 +16,7 @@ use Rattle.machine.specs.Fresh.{fresh}
 use Rattle.machine.specs.Execution.{Next, ends, goes, splits}
 use Rattle.machine.specs.Step.{popped, effect, step}
 use Rattle.machine.specs.Run.{ceilingOf}
+use Rattle.machine.specs.Whole.{Unlimited}
 use Rattle.account.specs.Calls.{Call, Load, Step, Run, outcome}
 use Rattle.account.specs.Lists.{Listed, spread}
 use Rattle.reference.specs.Process.{NoRemainingProcesses, ExecuteDat, DivideByZero}
@@ -111,9 +112,9 @@ Agrees (x ∷ xs) m c =
     let r = rust (answered (o .number)) x m c in
     Same m c × (r .answer ≡ matching (answered (o .number)) (o .number) (o .value)) × Agrees xs (o .machine) (r .core)
 
--- THE STATEMENT. Where fresh makes a machine, the Rust makes a core of that size, and they agree over every list of calls in the domain; a match loaded
+-- THE STATEMENT. Where fresh makes a machine with both limits M, the Rust makes a core of that size, and they agree over every list of calls in the domain; a match loaded
 -- in one call counts as the single loads that it made
 abbrev pub Refinement : Type 0
 Refinement =
-    (rules : Rules) (core queue : List ℕ) → fresh rules core queue .number ≡ 0
+    (rules : Rules) (core queue : List ℕ) → Unlimited rules → fresh rules core queue .number ≡ 0
     → (c : Core) × (new (rules .size) ≡ some c) × ((calls : List Listed) → let m = fresh rules core queue .machine in Domain (spread calls m) m → Agrees (spread calls m) m c)
