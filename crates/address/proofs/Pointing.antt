@@ -1,4 +1,4 @@
--- Laws of one operand: what the machine's operand is, by the mode's range, from what the code finds; what it keeps.
+-- Laws of one operand where both limits are M: what it is, by the mode's range, from what the code finds; the cells that it reads.
 -- Assumes nothing.
 use mathlib.Core.Path.{_≡_, refl, sym, ap, _∙_}
 use mathlib.Core.Bool.{Bool, true, false, _&&_, cond}
@@ -6,7 +6,7 @@ use mathlib.Core.List.{List, [], _∷_}
 use Prim.Native.Nat.{ℕ, zero, suc, _+_, _-_, _≤_, _<_, zero-le}
 use native.Mathlib.Omega.{arith}
 use lib.Dec.{eqb, ltb}
-use lib.ListN.{length, getD, set, length-set, List·getD-eq-default}
+use lib.ListN.{length, getD, set, List·getD-eq-default}
 use lib.Seq.{getD-set-same, getD-set-other}
 use borrow.Author.Tests.{eqb-true, eqb-false, ltb-true, ltb-false}
 use Rattle.laws.proofs.Cases.{span}
@@ -15,10 +15,10 @@ use Rattle.laws.proofs.Tests.{both, and-true}
 use Rattle.offset.specs.Offset.{ahead}
 use Rattle.types.specs.Types.{Field, A}
 use Rattle.cell.specs.Cells.{packed, unpacked, soundWord, number, withNumber}
-use Rattle.cell.proofs.Words.{unpack-pack, word-range}
 use Rattle.machine.specs.declared.Rules.{Rules}
 use Rattle.machine.specs.Pointers as machine
-use Rattle.machine.specs.Pointers.{Reach, here, there, through, Shift, keeps, lowers, raises, reaches, shifts, fieldOf, less, more, used, pointerOf, changed, before, after, shifted, siteAt, operand}
+use Rattle.machine.specs.Pointers.{here, through, Shift, keeps, lowers, raises, reaches, shifts, fieldOf, less, more, changed, before, siteAt}
+use Rattle.machine.specs.Whole.{used, former}
 use Rattle.address.specs.Rounding.{decremented, incremented, fieldThrough, aimed}
 use Rattle.address.specs.inner.Operands.{soundSeen, Ready}
 use Rattle.word.proofs.Cells.{ahead-below, whole, number-below, with-sound}
@@ -96,6 +96,14 @@ still-sound size core i j v l s h = at (eqb j i) refl
     at true e = rw (eqb-true j i e, getD-set-same core i v 0 l) (h ∙ sym s)
     at false e = ap (soundWord size) (getD-set-other core i j v 0 (eqb-false j i e))
 
+-- the word at a place of the core with that word at that location
+pub word-of : (core : List ℕ) (place location word : ℕ) → location < length core → cond (eqb place location) word (getD core place 0) ≡ getD (set core location word) place 0
+word-of core place location word l = by (eqb place location) refl
+  where
+    by : (t : Bool) → eqb place location ≡ t → cond t word (getD core place 0) ≡ getD (set core location word) place 0
+    by true e = rw (eqb-true place location e) (sym (getD-set-same core location word 0 l))
+    by false e = sym (getD-set-other core location place word 0 (eqb-false place location e))
+
 stored-sound : (size : ℕ) (core : List ℕ) (i j v : ℕ) → i < length core → (soundWord size (getD core i 0) ≡ true → soundWord size v ≡ true)
     → (soundWord size (getD core i 0) && soundWord size (getD (set core i v) j 0)) ≡ (soundWord size (getD core i 0) && soundWord size (getD core j 0))
 stored-sound size core i j v l h = by (soundWord size (getD core i 0)) refl
@@ -118,7 +126,7 @@ module _ (rules : Rules) (core : List ℕ) (pc mode n : ℕ) where
   size = rules .size
 
   abbrev its : machine.Operand
-  its = operand (siteAt rules pc) core mode n
+  its = former (siteAt rules pc) core mode n
 
   -- an operand that reads sound cells: its pointer and register, and the core after it
   pub record Points (pointer register : ℕ) (l : List ℕ) : Type 0 where
@@ -128,7 +136,7 @@ module _ (rules : Rules) (core : List ℕ) (pc mode n : ℕ) where
 
   pub sound-is : Ready rules core pc n → (pointer : ℕ) → its .read ≡ pointer
       → soundSeen size its ≡ (soundWord size (getD core (ahead size pc n) 0) && soundWord size (getD core pointer 0))
-  unfolding operand
+  unfolding former
   sound-is k p e =
       ap (λ (t : Bool). soundWord size (getD core (ahead size pc n) 0) && t) (and-true _)
       ∙ look size core (getD shifts mode keeps) (ahead size pc n) _ (fieldOf (getD reaches mode here)) (k .valid) (k .cells) (ahead-below pc n (k .place))
@@ -142,45 +150,36 @@ module _ (rules : Rules) (core : List ℕ) (pc mode n : ℕ) where
 
   -- the register and the core by what the mode does to the number found
   register-keeps : getD shifts mode keeps ≡ keeps → its .register ≡ unpacked (getD core (its .read) 0)
-  unfolding operand
+  unfolding former
   register-keeps t = rw t
 
   register-lowers : getD shifts mode keeps ≡ lowers
       → its .register ≡ unpacked (getD (changed core (ahead size pc n) field (less size found)) (its .read) 0)
-  unfolding operand
+  unfolding former
   register-lowers t = rw t
 
   register-raises : getD shifts mode keeps ≡ raises → its .register ≡ unpacked (getD core (its .read) 0)
-  unfolding operand
+  unfolding former
   register-raises t = rw t
 
   core-keeps : getD shifts mode keeps ≡ keeps → core ≡ its .core
-  unfolding operand
+  unfolding former
   core-keeps t = rw t
 
   core-lowers : getD shifts mode keeps ≡ lowers → changed core (ahead size pc n) field (less size found) ≡ its .core
-  unfolding operand
+  unfolding former
   core-lowers t = rw t
 
   core-raises : getD shifts mode keeps ≡ raises → changed core (ahead size pc n) field (more size found) ≡ its .core
-  unfolding operand
+  unfolding former
   core-raises t = rw t
 
-  pub writes-are : length (shifted (getD shifts mode keeps) 0) ≡ length (its .written)
-  unfolding operand
-  writes-are = by (getD shifts mode keeps)
-    where
-      by : (t : Shift) → length (shifted t 0) ≡ length (shifted t (ahead size pc n))
-      by keeps = refl
-      by lowers = refl
-      by raises = refl
-
   at-pc : mode ≡ 0 → its .read ≡ pc
-  unfolding operand
+  unfolding former
   at-pc e = rw e
 
   at-location : mode ≡ 1 → its .read ≡ ahead size pc n
-  unfolding operand
+  unfolding former
   at-location e = rw e
 
   -- a register that is the cell at the pointer
@@ -216,7 +215,7 @@ module _ (rules : Rules) (core : List ℕ) (pc mode n : ℕ) where
       uses = et ∙ is-used (getD shifts mode keeps) size seen seen-below
 
       pub points : its .read ≡ pointer
-      unfolding operand
+      unfolding former
       points = rw (ep, uses, seen-is, is, goes-through mode two eight)
 
       module _ (s : soundWord size (getD core pointer 0) ≡ true) where
@@ -266,51 +265,11 @@ module _ (rules : Rules) (core : List ℕ) (pc mode n : ℕ) where
               raised : l ≡ changed core (ahead size pc n) field (more size found)
               raised = rw (el, ew, eu ∙ is-more size seen seen-below, seen-is, is, goes-through mode two eight)
 
-  -- what holds of the core, and of it with another number at the location, holds of the core after the operand
-  kept : (P : List ℕ → Type 0) → pc < size → P core → ((k : ℕ) → k < size → P (changed core (ahead size pc n) field k)) → P (its .core)
-  unfolding operand
-  kept P h p q = by (getD shifts mode keeps)
-    where
-      by : (t : Shift) → P (after t size (before t size core (ahead size pc n) field found) (ahead size pc n) field found)
-      by keeps = p
-      by lowers = q (less size found) (ahead-below _ _ h)
-      by raises = q (more size found) (ahead-below _ _ h)
-
-  pub length-after : pc < size → length (its .core) ≡ length core
-  length-after h = kept (λ (l : List ℕ). length l ≡ length core) h refl (λ k u. length-set core _ _)
-
   -- the cell at the location is sound
   pub read-sound : soundSeen size its ≡ true → soundWord size (getD core (ahead size pc n) 0) ≡ true
-  unfolding operand
+  unfolding former
   read-sound e = both _ _ e .0
 
-  -- a sound cell stays sound, wherever it is
-  pub sound-after : size ≤ 46341 → pc < size → soundSeen size its ≡ true
-      → (i : ℕ) → soundWord size (getD core i 0) ≡ true → soundWord size (getD (its .core) i 0) ≡ true
-  sound-after v h e i s =
-      kept (λ (l : List ℕ). soundWord size (getD l i 0) ≡ true) h s
-      (λ k u. on-set (λ (w : ℕ). soundWord size w ≡ true) core (ahead size pc n) i _ 0 (with-sound field size (getD core (ahead size pc n) 0) k v (read-sound e) u) s)
-
-  -- the pointer is a place, its cell sound, also after the operand
-  pub pointer-below : pc < size → its .read < size
-  unfolding operand
-  pointer-below h = by (getD reaches mode here) _
-    where
-      by : (r : Reach) (k : ℕ) → pointerOf r size pc (ahead size pc n) k < size
-      by here k = h
-      by there k = ahead-below _ _ h
-      by (through f) k = ahead-below _ _ h
-
+  -- so is the one at the pointer
   pub pointer-sound : Ready rules core pc n → soundSeen size its ≡ true → soundWord size (getD core (its .read) 0) ≡ true
   pointer-sound k e = both (soundWord size (getD core (ahead size pc n) 0)) (soundWord size (getD core (its .read) 0)) (sym (sound-is k _ refl) ∙ e) .1
-
-  -- the register is a sound cell
-  pub register-sound : soundSeen size its ≡ true → soundWord size (packed (its .register)) ≡ true
-  unfolding operand
-  register-sound e =
-      let s = sym (and-true _) ∙ both (soundWord size (getD core (ahead size pc n) 0)) _ e .1 in
-      ap (soundWord size) (whole size _ s) ∙ s
-
-  pub register-whole : unpacked (packed (its .register)) ≡ its .register
-  unfolding operand
-  register-whole = unpack-pack _ (word-range _)

@@ -1,9 +1,12 @@
 // Where an operand points (01, 'Pointers').
 ghost use mathlib.Core.Path.{_≡_};
+ghost use mathlib.Core.Bool.{cond};
+ghost use lib.Dec.{eqb};
 ghost use lib.ListN.{getD};
 ghost use Rattle.machine.specs.Pointers as spec;
 ghost use Rattle.types.specs.Types.{firstBit};
 ghost use Rattle.address.specs.Rounding.{decremented, incremented, fieldThrough, aimed};
+use offset::Absolute;
 use offset::Relative;
 use types::field::A;
 use types::field::B;
@@ -58,4 +61,14 @@ pub fn aim(size: u32, mode: u64, found: Relative) -> Relative
         return decrement(found, size);
     }
     found
+}
+
+// The word at a place: the one that was there, or the one that is left at that location.
+pub fn word_at(place: Absolute, there: u64, location: Absolute, word: u64) -> u64
+    ensures { λ r. ⌜ r ≡ cond (eqb (place .0) (location .0)) word there ⌝ }
+{
+    if place.0 == location.0 {
+        return word;
+    }
+    there
 }

@@ -4,7 +4,7 @@ ghost use Prim.Native.Nat.{_≤_};
 ghost use lib.ListN.{length};
 ghost use lib.Seq.{sets};
 ghost use Rattle.battle.specs.Text.{printed};
-use machine::Rules;
+use fold::of_size;
 use playing::play_file;
 use printing::put_refusal;
 use printing::put_run;
@@ -39,7 +39,7 @@ pub fn play(file: &[u8], out: &mut [u8; 16384]) -> usize
 {
     let mut core = core_memory();
     let mut queue = queue_memory();
-    let p = play_file(file, &mut core, &mut queue, blank(Rules { size: 0 }));
+    let p = play_file(file, &mut core, &mut queue, blank(of_size(0)));
     let answer = p.answer;
     if p.ran {
         let h = p.header;

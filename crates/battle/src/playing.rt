@@ -9,6 +9,7 @@ ghost use Rattle.battle.specs.inner.Given.{resultOf};
 use answer::Answer;
 use answer::number;
 use cycle::run;
+use fold::of_size;
 use machine::Ceiling;
 use machine::Header;
 use machine::Rules;
@@ -87,6 +88,6 @@ pub(crate) fn play_file(file: &[u8], core: &mut [u64], queue: &mut [u64], blank:
     }
     let cells = c.size as usize;
     let lent = &mut core[..cells];
-    let rules = Rules { size: c.size };
+    let rules = of_size(c.size);
     play_loaded(file, rules, lent, queue)
 }

@@ -10,6 +10,7 @@ ghost use Rattle.match_load.specs.Loading.{loadWarrior, loads, loadMatch
 use answer::Answer;
 use answer::number;
 use encoding::part;
+use lent::sized;
 use machine::Header;
 use machine::Outcome;
 use machine::Ring;
@@ -17,7 +18,6 @@ use machine::Roster;
 use machine::Rules;
 use match_file::line_in;
 use match_file::read;
-use soundness::sized;
 use soundness::sound_header;
 use warrior::Loaded;
 use warrior::load_parts;

@@ -12,7 +12,8 @@ use Rattle.offset.specs.Offset.{ahead}
 use Rattle.types.specs.Types.{Field}
 use Rattle.cell.specs.Cells.{packed, unpacked, soundWord, number, withNumber, store}
 use Rattle.machine.specs.declared.Rules.{Rules}
-use Rattle.machine.specs.Pointers.{Reach, here, there, through, Shift, keeps, lowers, raises, reaches, shifts, fieldOf, used, pointerOf, before, after, siteAt, operand}
+use Rattle.machine.specs.Pointers.{Reach, here, there, through, Shift, keeps, lowers, raises, reaches, shifts, fieldOf, before, after, siteAt}
+use Rattle.machine.specs.Whole.{used, pointerOf, former}
 use Rattle.word.proofs.Cells.{ahead-below, number-below, with-sound}
 use Rattle.address.specs.Rounding.{decremented, incremented, fieldThrough, aimed}
 use Rattle.address.specs.inner.Operands.{soundSeen, Ready}
@@ -88,8 +89,8 @@ module _ (rules : Rules) (core : List ℕ) (pc mode n : ℕ) where
 
   -- the cells that the machine's operand reads, where the executed one is sound
   pub seen-both : Ready rules core pc n → soundWord size (getD core pc 0) ≡ true
-      → soundSeen size (operand (siteAt rules pc) core mode n) ≡ soundBoth size core (ahead size pc n) word mode
-  unfolding operand soundBoth
+      → soundSeen size (former (siteAt rules pc) core mode n) ≡ soundBoth size core (ahead size pc n) word mode
+  unfolding former soundBoth
   seen-both k h = sound-is rules core pc mode n k _ refl ∙ by (getD reaches mode here)
     where
       twice : (b : Bool) → (b && b) ≡ (b && true)
@@ -103,8 +104,8 @@ module _ (rules : Rules) (core : List ℕ) (pc mode n : ℕ) where
       by (through f) = refl
 
   -- and the core after it
-  pub core-left : operand (siteAt rules pc) core mode n .core ≡ store core (ahead size pc n) (left size word mode)
-  unfolding operand left
+  pub core-left : former (siteAt rules pc) core mode n .core ≡ store core (ahead size pc n) (left size word mode)
+  unfolding former left
   core-left = by (getD shifts mode keeps) (fieldOf (getD reaches mode here))
     where
       by : (t : Shift) (f : Field) → after t size (before t size core (ahead size pc n) f (number f (unpacked word))) (ahead size pc n) f (number f (unpacked word))

@@ -1,34 +1,28 @@
--- Laws of the other cells read: A's operand is looked at in the core, B's by the word that A leaves.
+-- Laws of the other cells read: where both limits are M, A's operand is looked at in the core, B's by the word that A leaves; and with any limits.
 -- Assumes nothing.
-use mathlib.Core.Path.{_≡_, refl, sym, ap, _∙_}
+use mathlib.Core.Path.{_≡_, sym, ap, _∙_}
 use mathlib.Core.Bool.{Bool, true, false, cond, _&&_}
 use mathlib.Core.List.{List}
 use Prim.Native.Nat.{ℕ, _<_}
 use lib.Dec.{eqb}
 use lib.ListN.{length, getD, length-set}
-use lib.Seq.{getD-set-same, getD-set-other}
-use borrow.Author.Tests.{eqb-true, eqb-false}
 use Rattle.laws.proofs.Every.{every-join}
 use Rattle.laws.proofs.Tests.{both}
 use Rattle.offset.specs.Offset.{ahead}
 use Rattle.cell.specs.Cells.{unpacked, soundWord, store}
 use Rattle.machine.specs.declared.Rules.{Rules}
 use Rattle.machine.specs.Pointers.{Site, siteAt}
-use Rattle.machine.specs.Instruction.{aOperand, bOperand}
+use Rattle.machine.specs.Soundness.{validLimits}
+use Rattle.machine.specs.Whole.{formerA, formerB, Unlimited}
+use Rattle.machine.proofs.Whole.{whole-effect}
 use Rattle.word.proofs.Cells.{ahead-below}
 use Rattle.address.specs.inner.Operands.{soundSeen, Fetched}
-use Rattle.address.proofs.Pointing.{on-set}
-use Rattle.address.proofs.Evaluation.{ready-a, ready-b}
-use Rattle.refusal.specs.inner.Looking.{soundBoth, left, soundSeenAt}
+use Rattle.address.proofs.Pointing.{on-set, word-of}
+use Rattle.address.proofs.Evaluation.{ready-a, ready-b, valid-size}
+use Rattle.chain.specs.Operands.{isPlace}
+use Rattle.chain.proofs.Evaluating.{place-is}
+use Rattle.refusal.specs.inner.Looking.{soundBoth, left, formerSound, soundSeenAt}
 use Rattle.refusal.proofs.Looking.{left-sound, both-stored, seen-both, core-left}
-
--- the word at a place of the core with that word at that location
-word-of : (core : List ℕ) (place location word : ℕ) → location < length core → cond (eqb place location) word (getD core place 0) ≡ getD (store core location word) place 0
-word-of core place location word l = by (eqb place location) refl
-  where
-    by : (t : Bool) → eqb place location ≡ t → cond t word (getD core place 0) ≡ getD (store core location word) place 0
-    by true e = rw (eqb-true place location e) (sym (getD-set-same core location word 0 l))
-    by false e = sym (getD-set-other core location place word 0 (eqb-false place location e))
 
 module _ (rules : Rules) (core : List ℕ) (pc here : ℕ) (f : Fetched rules core pc here) where
   abbrev s : Site
@@ -41,18 +35,18 @@ module _ (rules : Rules) (core : List ℕ) (pc here : ℕ) (f : Fetched rules co
   here-sound = rw (f .is) at (f .sound)
 
   -- B's cells follow A's
-  by-two : soundSeenAt s core ≡ (soundSeen size (aOperand s core) && soundSeen size (bOperand s core))
-  by-two = every-join (soundWord size) (aOperand s core .seen) (bOperand s core .seen)
+  by-two : formerSound s core ≡ (soundSeen size (formerA s core) && soundSeen size (formerB s core))
+  by-two = every-join (soundWord size) (formerA s core .seen) (formerB s core .seen)
 
   module _ {mode n location : ℕ} (em : mode ≡ unpacked here .«a_mode») (en : n ≡ unpacked here .a .0) (is : location ≡ ahead size pc n)
       {r : Bool} (er : r ≡ soundBoth size core location (getD core location 0) mode) where
-    seen-a : soundSeen size (aOperand s core) ≡ r
+    seen-a : soundSeen size (formerA s core) ≡ r
     seen-a =
         seen-both rules core pc _ _ (ready-a f (ap (λ (w : ℕ). unpacked w .a .0) (sym (f .is)))) here-sound
         ∙ sym (er ∙ rw (is, em, en, f .is))
 
-    pub no-a : r ≡ false → false ≡ soundSeenAt s core
-    no-a h = sym (by-two ∙ ap (λ (t : Bool). t && soundSeen size (bOperand s core)) (seen-a ∙ h))
+    pub no-a : r ≡ false → false ≡ formerSound s core
+    no-a h = sym (by-two ∙ ap (λ (t : Bool). t && soundSeen size (formerB s core)) (seen-a ∙ h))
 
     module _ (h : r ≡ true) where
       pub old-sound : soundWord size (getD core location 0) ≡ true
@@ -63,7 +57,7 @@ module _ (rules : Rules) (core : List ℕ) (pc here : ℕ) (f : Fetched rules co
         abbrev changed : List ℕ
         changed = store core location word
 
-        after-a : aOperand s core .core ≡ changed
+        after-a : formerA s core .core ≡ changed
         after-a = core-left rules core pc _ _ ∙ rw (ew, is, em, en, f .is)
 
         location-below : location < length core
@@ -87,16 +81,26 @@ module _ (rules : Rules) (core : List ℕ) (pc here : ℕ) (f : Fetched rules co
 
         module _ {mode′ n′ second found : ℕ} (em′ : mode′ ≡ unpacked here .«b_mode») (en′ : n′ ≡ unpacked again .b .0) (is′ : second ≡ ahead size pc n′)
             (ef : found ≡ cond (eqb second location) word (getD core second 0)) where
-          pub by-b : {r′ : Bool} → r′ ≡ soundBoth size core second found mode′ → r′ ≡ soundSeenAt s core
+          pub by-b : {r′ : Bool} → r′ ≡ soundBoth size core second found mode′ → r′ ≡ formerSound s core
           by-b {r′} er′ =
-              sym (by-two ∙ ap (λ (t : Bool). t && soundSeen size (bOperand s core)) (seen-a ∙ h) ∙ seen-b)
+              sym (by-two ∙ ap (λ (t : Bool). t && soundSeen size (formerB s core)) (seen-a ∙ h) ∙ seen-b)
             where
               found-is : found ≡ getD changed second 0
               found-is = ef ∙ word-of core second location word location-below
 
-              seen-b : soundSeen size (bOperand s core) ≡ r′
+              seen-b : soundSeen size (formerB s core) ≡ r′
               seen-b =
                   rw after-a
                   (seen-both rules changed pc _ _ (ready-b fetched-again (ap (λ (w : ℕ). unpacked w .b .0) (sym again-is))) (rw again-is at (fetched-again .sound))
                   ∙ both-stored size core location word _ _ _ location-below old-sound word-sound
                   ∙ sym (er′ ∙ rw (found-is, is′, en′, again-is, em′, f .is)))
+
+-- with both limits M these are the cells read
+pub whole-read : (rules : Rules) (core : List ℕ) (pc here : ℕ) → Fetched rules core pc here → Unlimited rules → {r : Bool} → r ≡ formerSound (siteAt rules pc) core
+    → r ≡ soundSeenAt (siteAt rules pc) core
+whole-read rules core pc here f u e = e ∙ sym (whole-effect (siteAt rules pc) core u (valid-size f) (f .cells) .seen (soundWord (rules .size)))
+
+-- and with any limits
+pub limited-read : (rules : Rules) (core : List ℕ) (pc here : ℕ) → Fetched rules core pc here → validLimits rules ≡ true
+    → {r : Bool} → r ≡ (isPlace rules core pc && soundSeenAt (siteAt rules pc) core) → r ≡ soundSeenAt (siteAt rules pc) core
+limited-read rules core pc here f l e = e ∙ simp (place-is rules core pc (f .cells) (f .place) l)

@@ -13,7 +13,7 @@ use Rattle.cell.specs.Cells.{soundWord}
 use Rattle.machine.specs.declared.Rules.{Rules}
 use Rattle.machine.specs.State.{Machine, passes, first, verdictTold}
 use Rattle.machine.specs.Queue.{front}
-use Rattle.machine.specs.Soundness.{freshChecks, soundFront}
+use Rattle.machine.specs.Soundness.{validLimits, freshChecks, soundFront}
 use Rattle.machine.specs.Pointers.{siteAt}
 use Rattle.machine.specs.Instruction.{fetched}
 use Rattle.machine.specs.Step.{popped, pc, site}
@@ -49,11 +49,12 @@ module _ (rules : Rules) (core : List ℕ) (pc : ℕ) where
       all-sound e = let p = public in simp (s, p, e)
 
 module _ (m : Machine) where
-  -- the first test, number by number
-  pub in-bounds-tests : (leb 1 (m .header .rules .size) && leb (m .header .rules .size) 46341 && eqb (m .header .rules .size) (length (m .core)) && leb 1 (length (m .queue)) && leb (length (m .queue)) 65535
-      && ltb (m .header .ring .head) (length (m .queue))) ≡ inBounds m
-  in-bounds-tests =
-      sym (ap (λ (b : Bool). b && ltb (m .header .ring .head) (length (m .queue))) (taken-tests (m .header .rules) (m .core) (m .queue)) ∙ simp and-assoc)
+  -- the first test, number by number, told whether the limits are valid
+  pub in-bounds-tests : {limits : Bool} → limits ≡ validLimits (m .header .rules)
+      → (leb 1 (m .header .rules .size) && leb (m .header .rules .size) 46341 && eqb (m .header .rules .size) (length (m .core)) && leb 1 (length (m .queue)) && leb (length (m .queue)) 65535
+      && limits && ltb (m .header .ring .head) (length (m .queue))) ≡ inBounds m
+  in-bounds-tests e =
+      rw e (sym (ap (λ (b : Bool). b && ltb (m .header .ring .head) (length (m .queue))) (taken-tests (m .header .rules) (m .core) (m .queue)) ∙ simp and-assoc))
 
   pub out-of-bounds : inBounds m ≡ false → gives 9 0 ≡ refused m
   unfolding refused
@@ -71,6 +72,9 @@ module _ (m : Machine) where
 
     pub cells : length (m .core) ≡ m .header .rules .size
     cells = is-taken (m .header .rules) (m .core) (m .queue) taken .cells
+
+    pub limits : validLimits (m .header .rules) ≡ true
+    limits = is-taken (m .header .rules) (m .core) (m .queue) taken .limits
 
     pub empty : m .header .ring .length ≡ 0 → gives 7 0 ≡ refused m
     unfolding refused

@@ -9,7 +9,7 @@ use Rattle.machine.specs.State.{Machine, Check, check, first, passes, verdictTo
 use Rattle.machine.specs.Soundness.{freshChecks}
 use Rattle.machine.specs.Step.{nextChecks}
 
--- M and the memories' lengths are such as fresh takes, and the head lies in the queue memory: so no read leaves a memory
+-- M, the memories' lengths and the limits are such as fresh takes, and the head lies in the queue memory: so no read leaves a memory
 abbrev pub inBounds : Machine → Bool
 inBounds m = passes (freshChecks (m .header .rules) (m .core) (m .queue)) && ltb (m .header .ring .head) (length (m .queue))
 

@@ -1,24 +1,28 @@
 // The refusal of the next step, found from the lent parts of a record before anything changes (01, 'One step').
 ghost use mathlib.Core.Path.{_≡_};
-ghost use mathlib.Core.Bool.{true, cond, _||_};
+ghost use mathlib.Core.Bool.{true, _||_};
 ghost use Prim.Native.Nat.{_<_, _≤_};
 ghost use lib.Dec.{eqb};
 ghost use lib.ListN.{length, getD};
 ghost use Rattle.answer.specs.Numbers.{told};
 ghost use Rattle.cell.specs.Cells.{soundWord};
 ghost use Rattle.machine.specs.State.{first, verdictTold};
+ghost use Rattle.machine.specs.Soundness.{validLimits};
 ghost use Rattle.machine.specs.Pointers.{siteAt};
 ghost use Rattle.lent.specs.Parts.{unnamed};
 ghost use Rattle.address.specs.inner.Operands.{Fetched};
-ghost use Rattle.refusal.specs.inner.Looking.{soundBoth, left, soundSeenAt, cellChecks};
+ghost use Rattle.refusal.specs.inner.Looking.{soundBoth, left, soundSeenAt, formerSound, cellChecks};
 ghost use Rattle.refusal.specs.Checks.{refused};
 use address::aim;
 use address::decrement;
 use address::field_of;
 use address::increment;
+use address::word_at;
 use answer::Answer;
 use cell::sound;
 use entry::unpack;
+use fold::unlimited;
+use fold::valid_limits;
 use machine::Ring;
 use machine::Rules;
 use machine::limits::LARGEST_CORE;
@@ -39,7 +43,7 @@ use word::number;
 use word::opcode;
 use word::with_number;
 
-// Whether both cells that an operand reads are sound: the one at its location, of which the word is given, and the one at its pointer.
+// Whether both cells that an operand reads where both limits are M are sound: the one at its location, of which the word is given, and the one at its pointer.
 fn look(core: &[u64], size: u32, location: Absolute, word: u64, mode: u64) -> bool
     requires { ⌜ (length (now core) ≡ size) × (location .0 < size) × (mode < 8) ⌝ }
     ensures { λ r. ⌜ r ≡ soundBoth size (now (core .entry)) (location .0) word mode ⌝ }
@@ -74,21 +78,11 @@ fn changed(word: u64, size: u32, mode: u64) -> u64
     with_number(word, field, increment(found, size))
 }
 
-// The word at a place: the one that was there, or the one that is left at that location.
-fn word_at(place: Absolute, there: u64, location: Absolute, word: u64) -> u64
-    ensures { λ r. ⌜ r ≡ cond (eqb (place .0) (location .0)) word there ⌝ }
-{
-    if place.0 == location.0 {
-        return word;
-    }
-    there
-}
-
-// Whether the other cells that the instruction at PC reads are sound. B goes by the word that A leaves, but a change of a number keeps a
-// word sound: so the cell at B's pointer is read as it is.
-fn readable(core: &[u64], rules: Rules, pc: Absolute, here: u64) -> bool
+// Whether the other cells that the instruction at PC reads are sound, where both limits are M. B goes by the word that A leaves, but a
+// change of a number keeps a word sound: so the cell at B's pointer is read as it is.
+fn whole_readable(core: &[u64], rules: Rules, pc: Absolute, here: u64) -> bool
     requires { ⌜ Fetched rules (now core) (pc .0) here ⌝ }
-    ensures { λ r. ⌜ r ≡ soundSeenAt (siteAt rules (pc .0)) (now (core .entry)) ⌝ }
+    ensures { λ r. ⌜ r ≡ formerSound (siteAt rules (pc .0)) (now (core .entry)) ⌝ }
 {
     let size = rules.size;
     let mode = a_mode(here);
@@ -107,9 +101,20 @@ fn readable(core: &[u64], rules: Rules, pc: Absolute, here: u64) -> bool
     look(core, size, second, found, b_mode(here))
 }
 
+// Whether the other cells that the instruction at PC reads are sound.
+fn readable(core: &[u64], rules: Rules, pc: Absolute, here: u64) -> bool
+    requires { ⌜ Fetched rules (now core) (pc .0) here × (validLimits rules ≡ true) ⌝ }
+    ensures { λ r. ⌜ r ≡ soundSeenAt (siteAt rules (pc .0)) (now (core .entry)) ⌝ }
+{
+    if unlimited(rules) {
+        return whole_readable(core, rules, pc, here);
+    }
+    chain::readable(core, rules, pc)
+}
+
 // The refusal of the instruction at a place: 9, 10, 9.
 fn cell_refusal(core: &[u64], rules: Rules, pc: Absolute) -> Answer
-    requires { ⌜ (rules .size ≤ 46341) × (length (now core) ≡ rules .size) × (pc .0 < rules .size) ⌝ }
+    requires { ⌜ (rules .size ≤ 46341) × (length (now core) ≡ rules .size) × (pc .0 < rules .size) × (validLimits rules ≡ true) ⌝ }
     ensures { λ r. ⌜ told r ≡ verdictTold (first (cellChecks (siteAt rules (pc .0)) (now (core .entry)))) ⌝ }
 {
     let at = pc.0 as usize;
@@ -154,11 +159,13 @@ pub fn refusal<'a>(
     ensures { λ r. ⌜ told r ≡ refused (unnamed (now (core .entry)) (now (queue .entry)) rules ring taken held (now (counts .entry)) (now (threads .entry))) ⌝ }
 {
     let slots = queue.len();
+    let limits = valid_limits(rules);
     let in_bounds = (1 <= rules.size)
         & (rules.size <= LARGEST_CORE)
         & (rules.size as usize == core.len())
         & (1 <= slots)
         & (slots <= MOST_ENTRIES)
+        & limits
         & ((ring.head as usize) < slots);
     if !in_bounds {
         return Answer::UnsoundRecord;

@@ -9,10 +9,10 @@ use crate::reading::two;
 use crate::writing::tell;
 use cycle::run;
 use cycle::step;
+use fold::of_size;
 use machine::Ceiling;
 use machine::Header;
 use machine::Outcome;
-use machine::Rules;
 use sim::fresh;
 use warrior::load;
 
@@ -91,7 +91,7 @@ fn battle(input: &[u8], at: usize, core: &mut [u64], queue: &mut [u64]) -> usize
         return input.len();
     }
     let lent = &mut core[..cells];
-    let o = fresh(Rules { size }, lent, queue);
+    let o = fresh(of_size(size), lent, queue);
     let h = o.header;
     calls(input, after(at, 4), count, lent, queue, h)
 }

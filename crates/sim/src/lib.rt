@@ -2,6 +2,7 @@
 ghost use mathlib.Core.Path.{_≡_};
 ghost use Rattle.answer.specs.Numbers.{told, gives};
 ghost use Rattle.cell.specs.Cells.{unpacked};
+ghost use Rattle.machine.specs.State.{ofSize};
 ghost use Rattle.machine.specs.Fresh as spec;
 ghost use Rattle.machine.specs.Run as run;
 ghost use Rattle.lent.specs.Parts.{machineOf};
@@ -11,6 +12,8 @@ use cell::Cell;
 use cell::fresh_cell;
 use cell::sound;
 use cell::unpack;
+use fold::of_size;
+use fold::valid_limits;
 use machine::Header;
 use machine::Outcome;
 use machine::Ring;
@@ -55,6 +58,13 @@ pub fn refuse(answer: Answer, h: Header) -> Outcome
     }
 }
 
+// A refusal of a fresh machine: a header of zeros.
+fn no_machine(answer: Answer) -> Outcome
+    ensures { λ r. ⌜ (r .answer ≡ answer) × (r .writes ≡ 0) × (r .steps ≡ 0) × (r .header ≡ spec.blank (ofSize 0)) ⌝ }
+{
+    refuse(answer, blank(of_size(0)))
+}
+
 // A fresh machine: fresh cells, zeros in the queue memory, and its header.
 pub fn fresh(rules: Rules, core: &mut [u64], queue: &mut [u64]) -> Outcome
     ensures { λ r. ⌜ given (told (r .answer)) (r .writes) (r .steps) (machineOf (now (core .exit)) (now (queue .exit)) (r .header))
@@ -62,12 +72,15 @@ pub fn fresh(rules: Rules, core: &mut [u64], queue: &mut [u64]) -> Outcome
 {
     let size = rules.size;
     if !((1 <= size) & (size <= LARGEST_CORE)) {
-        return refuse(Answer::InvalidCoreSize, blank(Rules { size: 0 }));
+        return no_machine(Answer::InvalidCoreSize);
     }
     let slots = queue.len();
     let limited = (1 <= slots) & (slots <= MOST_ENTRIES);
     if (core.len() != size as usize) | !limited {
-        return refuse(Answer::InvalidMemory, blank(Rules { size: 0 }));
+        return no_machine(Answer::InvalidMemory);
+    }
+    if !valid_limits(rules) {
+        return no_machine(Answer::InvalidLimit);
     }
     memory::fill(core, fresh_cell());
     memory::fill(queue, 0);

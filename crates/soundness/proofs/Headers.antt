@@ -17,16 +17,19 @@ use Rattle.metadata.specs.Metadata.{validByte}
 use Rattle.machine.specs.declared.Header.{Header}
 use Rattle.machine.specs.State.{Machine}
 use Rattle.machine.specs.Names.{names}
-use Rattle.machine.specs.Soundness.{headerTests, soundHeader, soundEntry}
+use Rattle.machine.specs.Soundness.{validLimits, headerTests, soundHeader, soundEntry}
 use Rattle.machine.proofs.Soundness.{taken-tests}
 use Rattle.lent.specs.Parts.{namesOf, headerOf, noRing, machineOf, validLength}
 
--- the tests of numbers, which come first
-abbrev pub numbers : Machine → Bool
-numbers m =
+-- the tests of numbers, which come first, told whether the limits are valid
+abbrev pub numbersBy : Bool → Machine → Bool
+numbersBy limits m =
     let h = m .header in
     leb 1 (h .rules .size) && leb (h .rules .size) 46341 && eqb (h .rules .size) (length (m .core)) && leb 1 (length (m .queue)) && leb (length (m .queue)) 65535
-    && leb (h .ring .length) (length (m .queue)) && ltb (h .ring .head) (length (m .queue)) && leb (h .names .held) 16
+    && limits && leb (h .ring .length) (length (m .queue)) && ltb (h .ring .head) (length (m .queue)) && leb (h .names .held) 16
+
+abbrev pub numbers : Machine → Bool
+numbers m = numbersBy (validLimits (m .header .rules)) m
 
 -- at each place of a table that passes
 every-at : {A : Type 0} (p : A → Bool) (f : ℕ → A) (n i k : ℕ) → every p (table f i n) ≡ true → i ≤ k → k < i + n → p (f k) ≡ true
@@ -57,7 +60,7 @@ module _ (m : Machine) where
   module _ (n : numbers m ≡ true) where
     pub few : m .header .names .held ≤ 16
     few = leb-true (m .header .names .held) 16 (both (leb 1 (m .header .rules .size) && leb (m .header .rules .size) 46341 && eqb (m .header .rules .size) (length (m .core)) && leb 1 (length (m .queue)) && leb (length (m .queue)) 65535
-        && leb (m .header .ring .length) (length (m .queue)) && ltb (m .header .ring .head) (length (m .queue))) (leb (m .header .names .held) 16) n .1)
+        && validLimits (m .header .rules) && leb (m .header .ring .length) (length (m .queue)) && ltb (m .header .ring .head) (length (m .queue))) (leb (m .header .names .held) 16) n .1)
 
     pub no-lengths : every validLength (take (m .header .names .held) (m .header .names .lengths)) ≡ false → false ≡ soundHeader m
     no-lengths e = sym (header-is ∙ simp (n, e))

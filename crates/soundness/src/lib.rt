@@ -1,4 +1,4 @@
-// The tests of a lent record: its header, and the front entry (01, 'What a call gives back'); and the lengths of a header's arrays.
+// The tests of a lent record: its header, and the front entry (01, 'What a call gives back'; 02, A.2).
 ghost use mathlib.Core.Path.{_≡_};
 ghost use mathlib.Core.List.{[]};
 ghost use Prim.Native.Nat.{ℕ, _+_, _-_, _≤_, _<_};
@@ -12,6 +12,7 @@ ghost use Rattle.lent.specs.Parts.{namesOf, headerOf, noRing, machineOf, validL
 ghost use Rattle.soundness.specs.inner.Keys.{keyOf, Keyed, timesIn};
 use encoding::byte;
 use entry::unpack;
+use fold::valid_limits;
 use machine::Ring;
 use machine::Rules;
 use machine::limits::LARGEST_CORE;
@@ -193,21 +194,6 @@ fn wide(n: u32) -> u64
     n as u64
 }
 
-// The lengths of the header's arrays.
-pub fn sized<'a>(
-    names: &'a [u8; 512],
-    lengths: &'a [u8; 16],
-    counts: &'a [u32; 16],
-    threads: &'a [u32; 16],
-)
-    ensures { λ _. ⌜ (length (now (names .entry)) ≡ 512) × (length (now (lengths .entry)) ≡ 16) × (length (now (counts .entry)) ≡ 16) × (length (now (threads .entry)) ≡ 16) ⌝ }
-{
-    let _n = &names[..];
-    let _l = &lengths[..];
-    let _c = &counts[..];
-    let _t = &threads[..];
-}
-
 // Whether a header is sound beside the core's and the queue's memory.
 pub fn sound_header<'a>(
     core: &[u64],
@@ -222,11 +208,13 @@ pub fn sound_header<'a>(
     ensures { λ r. ⌜ r ≡ soundHeader (machineOf (now (core .entry)) (now (queue .entry)) (headerOf rules ring (namesOf held (now (names .entry)) (now (lengths .entry))) (now (counts .entry)) [])) ⌝ }
 {
     let slots = queue.len();
+    let limits = valid_limits(rules);
     let numbers = (1 <= rules.size)
         & (rules.size <= LARGEST_CORE)
         & (rules.size as usize == core.len())
         & (1 <= slots)
         & (slots <= MOST_ENTRIES)
+        & limits
         & (ring.length as usize <= slots)
         & ((ring.head as usize) < slots)
         & (held <= 16);

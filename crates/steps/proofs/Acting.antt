@@ -27,7 +27,7 @@ use Rattle.steps.specs.declared.opcode.Executed.{Executed}
 use Rattle.steps.specs.declared.opcode.Executed.the-variants.{Goes, Splits, Dat, DivideByZero}
 use Rattle.steps.specs.declared.modifier.Met.{Met}
 use Rattle.steps.specs.inner.Instruction.{answered}
-use Rattle.steps.specs.inner.Instruction.{absolute}
+use Rattle.chain.specs.Operands.{absolute}
 use Rattle.steps.specs.inner.Acts.{copyOf, FirstBit, metOf, firstOf, lastOf, Below, valueBy, sceneOf, storeWrites, Answers, Does, SoundScene}
 use Rattle.word.proofs.Cells.{whole}
 use Rattle.steps.proofs.FieldBits.{packed-small}

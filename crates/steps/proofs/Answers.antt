@@ -141,7 +141,7 @@ module _ (m : Machine) (ready : Ready m) (play : Playable m) where
     read-sound = not-false (every (soundWord size) (seenAt (site m) (m .core))) (last-row (eqb (m .header .ring .length) 0) (not (soundEntry (m .header) (front m))) worn unsound-here (private (m .core) (pc m)) unsound-read (play .only) public)
 
     pub executable : Executable (m .header .rules) (m .core) (pc m) (getD (m .core) (pc m) 0)
-    executable = record { cell = fetched-is; few = few; read = read-sound }
+    executable = record { cell = fetched-is; few = few; read = read-sound; limits = is-taken (m .header .rules) (m .core) (m .queue) (ready .taken) .limits }
 
     pub executed-step : givenBy (executed m) ≡ givenBy (stepOf m)
     unfolding stepOf

@@ -4,7 +4,10 @@ pub mod FieldPairs
 pub mod Arithmetic
 pub mod Acting
 pub mod Operating
+pub mod Seen
+pub mod Meeting
 pub mod Executing
+pub mod Whole
 pub mod Queueing
 pub mod Naming
 pub mod Answers

@@ -95,6 +95,7 @@ module _ (m : Machine) where
           size = t .size;
           core = t .cells;
           queue = t .slots;
+          limits = t .limits;
           limit = r .limit;
           head = r .head;
           few = r .few;
@@ -117,7 +118,7 @@ module _ (m : Machine) where
   sound-ready s =
       let t = tested m (s .header) in
       record {
-        taken = takes (m .header .rules) (m .core) (m .queue) (record { size = t .size; cells = t .core; slots = t .queue });
+        taken = takes (m .header .rules) (m .core) (m .queue) (record { size = t .size; cells = t .core; slots = t .queue; limits = t .limits });
         limit = t .limit;
         head = t .head;
         few = t .few;

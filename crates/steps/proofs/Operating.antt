@@ -1,4 +1,4 @@
--- Laws of one operand that reads sound cells: what the code gives of it is the machine's.
+-- Laws of one operand that reads sound cells, where both limits are M: what the code gives of it is the machine's.
 -- Assumes nothing.
 use mathlib.Core.Path.{_≡_, sym, ap, ap₂, _∙_}
 use mathlib.Core.Bool.{true}
@@ -16,7 +16,8 @@ use Rattle.cell.proofs.Soundness.{sound-fields}
 use Rattle.word.proofs.Cells.{ahead-below, number-below}
 use Rattle.machine.specs.declared.Rules.{Rules}
 use Rattle.machine.specs.Pointers as machine
-use Rattle.machine.specs.Pointers.{Shift, shifts, keeps, lowers, raises, less, more, shifted, siteAt, operand}
+use Rattle.machine.specs.Pointers.{Shift, shifts, keeps, lowers, raises, less, more, shifted, siteAt}
+use Rattle.machine.specs.Whole.{former}
 use Rattle.address.specs.Rounding.{incremented, fieldThrough, aimed}
 use Rattle.address.specs.inner.Operands.{soundSeen, Ready}
 use Rattle.address.proofs.Pointing as law
@@ -40,7 +41,7 @@ first-bit B e = inl e
 
 module _ (rules : Rules) (core : List ℕ) (pc mode n : ℕ) where
   abbrev its : machine.Operand
-  its = operand (siteAt rules pc) core mode n
+  its = former (siteAt rules pc) core mode n
 
   abbrev size : ℕ
   size = rules .size
@@ -100,8 +101,8 @@ module _ (rules : Rules) (core : List ℕ) (pc mode n : ℕ) where
             gives {pointer = pointer} (law.raise rules core pc mode n (location .0) is there-sound two eight found to (pointer .0) es et ep pointed l word el p up eu ew register er)
 
 -- the same mode and number by other names
-pub same-operand : (rules : Rules) (core : List ℕ) (pc : ℕ) {m n m' n' : ℕ} → m ≡ m' → n ≡ n' → operand (siteAt rules pc) core m n ≡ operand (siteAt rules pc) core m' n'
-same-operand rules core pc e f = ap₂ (λ (i j : ℕ). operand (siteAt rules pc) core i j) e f
+pub same-operand : (rules : Rules) (core : List ℕ) (pc : ℕ) {m n m' n' : ℕ} → m ≡ m' → n ≡ n' → former (siteAt rules pc) core m n ≡ former (siteAt rules pc) core m' n'
+same-operand rules core pc e f = ap₂ (λ (i j : ℕ). former (siteAt rules pc) core i j) e f
 
 pub as-named : {o p : machine.Operand} {r : Operand} {l : List ℕ} → o ≡ p → (r ≡ operandOf o) × (l ≡ o .core) → (r ≡ operandOf p) × (l ≡ p .core)
 as-named e g = (g .0 ∙ ap operandOf e, g .1 ∙ ap (λ (o : machine.Operand). o .core) e)

@@ -7,9 +7,9 @@ ghost use Rattle.lent.specs.Parts.{namesOf, parts};
 ghost use Rattle.lent.specs.Given.{given, givenBy};
 use crate::running::run_loop;
 use answer::Answer;
+use lent::sized;
 use machine::Ring;
 use machine::Rules;
-use soundness::sized;
 use soundness::sound_header;
 
 mod execute;

@@ -40,10 +40,10 @@ use types::opcode::SUB;
 
 // What an instruction answers: the next place, beside it the place of SPL's child, or how it ends; and the writes.
 pub(crate) enum Executed {
-    Goes(Absolute, u32),
-    Splits(Absolute, Absolute, u32),
-    Dat(u32),
-    DivideByZero(u32),
+    Goes(Absolute, u64),
+    Splits(Absolute, Absolute, u64),
+    Dat(u64),
+    DivideByZero(u64),
 }
 
 // The opcode's number of a sound cell.
@@ -79,7 +79,7 @@ fn moves(
     ra: u64,
     target: Absolute,
     rb: u64,
-    w: u32,
+    w: u64,
 ) -> Executed
     requires { ⌜ SoundScene size (now core) modifier (pc .0) (target .0) ra rb w × (now pairs ≡ fieldPairs) ⌝ }
     ensures { λ r. ⌜ Does 1 (sceneOf size modifier (pc .0) 0 ra rb (getD (now (core .entry)) (target .0) 0)) (now (core .entry)) (target .0) w r (now (core .exit)) ⌝ }
@@ -125,7 +125,7 @@ fn sums(
     ra: u64,
     target: Absolute,
     rb: u64,
-    w: u32,
+    w: u64,
 ) -> Executed
     requires { ⌜ SoundScene size (now core) modifier (pc .0) (target .0) ra rb w × (2 ≤ opcode) × (opcode < 5) × (now pairs ≡ fieldPairs) ⌝ }
     ensures { λ r. ⌜ Does opcode (sceneOf size modifier (pc .0) 0 ra rb (getD (now (core .entry)) (target .0) 0)) (now (core .entry)) (target .0) w r (now (core .exit)) ⌝ }
@@ -173,7 +173,7 @@ fn divides(
     ra: u64,
     target: Absolute,
     rb: u64,
-    w: u32,
+    w: u64,
 ) -> Executed
     requires { ⌜ SoundScene size (now core) modifier (pc .0) (target .0) ra rb w × (5 ≤ opcode) × (opcode < 7) × (now pairs ≡ fieldPairs) ⌝ }
     ensures { λ r. ⌜ Does opcode (sceneOf size modifier (pc .0) 0 ra rb (getD (now (core .entry)) (target .0) 0)) (now (core .entry)) (target .0) w r (now (core .exit)) ⌝ }
@@ -222,7 +222,7 @@ fn jumps(
     jump: Absolute,
     ra: u64,
     rb: u64,
-    w: u32,
+    w: u64,
 ) -> Executed
     requires { ⌜ (modifier ≤ 6) × (pc .0 < size) × (size ≤ 46341) × (8 ≤ opcode) × (opcode < 10) × (now pairs ≡ fieldPairs) ⌝ }
     ensures { λ r. ⌜ Answers opcode (sceneOf size modifier (pc .0) (jump .0) ra rb 0) w r ⌝ }
@@ -248,7 +248,7 @@ fn decrements_and_jumps(
     ra: u64,
     target: Absolute,
     rb: u64,
-    w: u32,
+    w: u64,
 ) -> Executed
     requires { ⌜ SoundScene size (now core) modifier (pc .0) (target .0) ra rb w × (now pairs ≡ fieldPairs) ⌝ }
     ensures { λ r. ⌜ Does 10 (sceneOf size modifier (pc .0) (jump .0) ra rb (getD (now (core .entry)) (target .0) 0)) (now (core .entry)) (target .0) w r (now (core .exit)) ⌝ }
@@ -268,7 +268,7 @@ fn decrements_and_jumps(
     Executed::Goes(next, w + 1)
 }
 
-// SLT: whether every a is below its b; SNE: whether one differs; CMP, SEQ: whether none does. Under I the A register is also compared whole with the live target.
+// SLT: whether every a is below its b; SNE: whether one differs; CMP, SEQ: whether none does. Under I the A register is also compared whole with the live cell.
 fn passes(opcode: u64, modifier: u8, live: u64, ra: u64, p: Met) -> bool
     ensures { λ r. ⌜ r ≡ cond (eqb opcode 14) (ltb (p .a1 .0) (p .b1 .0) && ltb (p .a2 .0) (p .b2 .0))
         (cond (eqb opcode 13) (not (eqb (p .a1 .0) (p .b1 .0) && eqb (p .a2 .0) (p .b2 .0) && (not (eqb modifier 6) || eqb ra live)))
@@ -295,7 +295,7 @@ fn skips<'a>(
     ra: u64,
     target: Absolute,
     rb: u64,
-    w: u32,
+    w: u64,
 ) -> Executed
     requires { ⌜ SoundScene size (now core) modifier (pc .0) (target .0) ra rb w × (11 ≤ opcode) × (opcode < 15) × (now pairs ≡ fieldPairs) ⌝ }
     ensures { λ r. ⌜ Does opcode (sceneOf size modifier (pc .0) 0 ra rb (getD (now (core .entry)) (target .0) 0)) (now (core .entry)) (target .0) w r (now (core .entry)) ⌝ }
@@ -322,7 +322,7 @@ pub(crate) fn act(
     ra: u64,
     target: Absolute,
     rb: u64,
-    w: u32,
+    w: u64,
 ) -> Executed
     requires { ⌜ SoundScene size (now core) (unpacked here .modifier) (pc .0) (target .0) ra rb w × (unpacked here .opcode ≤ 16) × (here < 2 ^ 46) × (now pairs ≡ fieldPairs) ⌝ }
     ensures { λ r. ⌜ Does (unpacked here .opcode) (sceneOf size (unpacked here .modifier) (pc .0) (jump .0) ra rb (getD (now (core .entry)) (target .0) 0))

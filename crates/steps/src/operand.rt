@@ -1,11 +1,12 @@
-// Operands of an instruction that is not refused: where they point, and the cells that they read and change (01, 'Pointers').
+// Operands of an instruction that is not refused, where both limits are M: where they point, and the cells that they read and change (01, 'Pointers').
 ghost use mathlib.Core.Path.{_≡_};
 ghost use mathlib.Core.Bool.{true};
 ghost use Prim.Native.Nat.{_<_, _≤_};
 ghost use lib.ListN.{length, getD, set};
 ghost use Rattle.cell.specs.Cells.{unpacked, soundWord};
 ghost use Rattle.machine.specs.Pointers as spec;
-ghost use Rattle.machine.specs.Instruction.{fetched, aOperand};
+ghost use Rattle.machine.specs.Instruction.{fetched};
+ghost use Rattle.machine.specs.Whole.{former, formerA};
 ghost use Rattle.address.specs.inner.Operands.{Ready, Fetched, soundSeen};
 ghost use Rattle.steps.specs.inner.Instruction.{operandOf};
 use crate::modifier::number_at;
@@ -36,9 +37,9 @@ pub(crate) struct Operand {
 // The modes `#` and `$`, which need no second look at the pointer's cell.
 fn direct(core: &[u64], rules: Rules, pc: Absolute, here: u64, mode: u64, n: Relative) -> Operand
     requires { ⌜ Ready rules (now core) (pc .0) (n .0) × (mode < 2) × (here ≡ getD (now core) (pc .0) 0) × (soundWord (rules .size) here ≡ true)
-        × (soundSeen (rules .size) (spec.operand (spec.siteAt rules (pc .0)) (now core) mode (n .0)) ≡ true) ⌝ }
-    ensures { λ r. ⌜ (r ≡ operandOf (spec.operand (spec.siteAt rules (pc .0)) (now (core .entry)) mode (n .0)))
-        × (now (core .entry) ≡ spec.operand (spec.siteAt rules (pc .0)) (now (core .entry)) mode (n .0) .core) ⌝ }
+        × (soundSeen (rules .size) (former (spec.siteAt rules (pc .0)) (now core) mode (n .0)) ≡ true) ⌝ }
+    ensures { λ r. ⌜ (r ≡ operandOf (former (spec.siteAt rules (pc .0)) (now (core .entry)) mode (n .0)))
+        × (now (core .entry) ≡ former (spec.siteAt rules (pc .0)) (now (core .entry)) mode (n .0) .core) ⌝ }
 {
     if mode == IMMEDIATE {
         return Operand {
@@ -78,9 +79,9 @@ fn raise(core: &mut [u64], at: usize, there: usize, raised: u64) -> u64
 // The six modes that go through the A number (even) or the B number (odd) of the cell at the location.
 fn indirect(core: &mut [u64], rules: Rules, pc: Absolute, mode: u64, n: Relative) -> Operand
     requires { ⌜ Ready rules (now core) (pc .0) (n .0) × (2 ≤ mode) × (mode < 8)
-        × (soundSeen (rules .size) (spec.operand (spec.siteAt rules (pc .0)) (now core) mode (n .0)) ≡ true) ⌝ }
-    ensures { λ r. ⌜ (r ≡ operandOf (spec.operand (spec.siteAt rules (pc .0)) (now (core .entry)) mode (n .0)))
-        × (now (core .exit) ≡ spec.operand (spec.siteAt rules (pc .0)) (now (core .entry)) mode (n .0) .core) ⌝ }
+        × (soundSeen (rules .size) (former (spec.siteAt rules (pc .0)) (now core) mode (n .0)) ≡ true) ⌝ }
+    ensures { λ r. ⌜ (r ≡ operandOf (former (spec.siteAt rules (pc .0)) (now (core .entry)) mode (n .0)))
+        × (now (core .exit) ≡ former (spec.siteAt rules (pc .0)) (now (core .entry)) mode (n .0) .core) ⌝ }
 {
     let size = rules.size;
     let location = add(pc, n, size);
@@ -109,8 +110,8 @@ fn indirect(core: &mut [u64], rules: Rules, pc: Absolute, mode: u64, n: Relative
 
 // The A operand of the cell at PC.
 pub(crate) fn a_operand(core: &mut [u64], rules: Rules, pc: Absolute, here: u64) -> Operand
-    requires { ⌜ Fetched rules (now core) (pc .0) here × (soundSeen (rules .size) (aOperand (spec.siteAt rules (pc .0)) (now core)) ≡ true) ⌝ }
-    ensures { λ r. ⌜ (r ≡ operandOf (aOperand (spec.siteAt rules (pc .0)) (now (core .entry)))) × (now (core .exit) ≡ aOperand (spec.siteAt rules (pc .0)) (now (core .entry)) .core) ⌝ }
+    requires { ⌜ Fetched rules (now core) (pc .0) here × (soundSeen (rules .size) (formerA (spec.siteAt rules (pc .0)) (now core)) ≡ true) ⌝ }
+    ensures { λ r. ⌜ (r ≡ operandOf (formerA (spec.siteAt rules (pc .0)) (now (core .entry)))) × (now (core .exit) ≡ formerA (spec.siteAt rules (pc .0)) (now (core .entry)) .core) ⌝ }
 {
     let mode = a_mode(here);
     let n = number(here, A);
@@ -123,9 +124,9 @@ pub(crate) fn a_operand(core: &mut [u64], rules: Rules, pc: Absolute, here: u64)
 // The B operand of that cell, its number read again from the core.
 pub(crate) fn b_operand(core: &mut [u64], rules: Rules, pc: Absolute, here: u64) -> Operand
     requires { ⌜ Fetched rules (now core) (pc .0) (getD (now core) (pc .0) 0)
-        × (soundSeen (rules .size) (spec.operand (spec.siteAt rules (pc .0)) (now core) (unpacked here .«b_mode») (fetched (now core) (pc .0) .b .0)) ≡ true) ⌝ }
-    ensures { λ r. ⌜ (r ≡ operandOf (spec.operand (spec.siteAt rules (pc .0)) (now (core .entry)) (unpacked here .«b_mode») (fetched (now (core .entry)) (pc .0) .b .0)))
-        × (now (core .exit) ≡ spec.operand (spec.siteAt rules (pc .0)) (now (core .entry)) (unpacked here .«b_mode») (fetched (now (core .entry)) (pc .0) .b .0) .core) ⌝ }
+        × (soundSeen (rules .size) (former (spec.siteAt rules (pc .0)) (now core) (unpacked here .«b_mode») (fetched (now core) (pc .0) .b .0)) ≡ true) ⌝ }
+    ensures { λ r. ⌜ (r ≡ operandOf (former (spec.siteAt rules (pc .0)) (now (core .entry)) (unpacked here .«b_mode») (fetched (now (core .entry)) (pc .0) .b .0)))
+        × (now (core .exit) ≡ former (spec.siteAt rules (pc .0)) (now (core .entry)) (unpacked here .«b_mode») (fetched (now (core .entry)) (pc .0) .b .0) .core) ⌝ }
 {
     let mode = b_mode(here);
     let at = pc.0 as usize;
@@ -138,10 +139,9 @@ pub(crate) fn b_operand(core: &mut [u64], rules: Rules, pc: Absolute, here: u64)
 }
 
 // The writes of an operand in a mode: one for `{`, `<`, `}` and `>`.
-pub(crate) fn changes(mode: u64) -> u32
+pub(crate) fn changes(mode: u64) -> u64
     requires { ⌜ mode < 8 ⌝ }
     ensures { λ r. ⌜ r ≡ length (spec.shifted (getD spec.shifts mode spec.keeps) 0) ⌝ }
 {
-    let writes = (mode >> 2) as u32;
-    writes
+    mode >> 2
 }

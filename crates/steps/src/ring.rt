@@ -20,7 +20,7 @@ use offset::Absolute;
 // What a step answers, with its writes, and the ring's head, tail and length afterwards.
 pub(crate) struct Stepped {
     pub answer: Answer,
-    pub writes: u32,
+    pub writes: u64,
     pub head: u32,
     pub tail: u32,
     pub length: u32,

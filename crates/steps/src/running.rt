@@ -5,6 +5,7 @@ ghost use Prim.Native.Nat.{_+_, _-_, _≤_};
 ghost use lib.Dec.{eqb};
 ghost use Rattle.answer.specs.Numbers.{told, gives};
 ghost use Rattle.types.specs.Types.{fieldPairs};
+ghost use Rattle.machine.specs.Whole.{Unlimited};
 ghost use Rattle.refusal.specs.Checks as check;
 ghost use Rattle.lent.specs.Parts.{unnamed};
 ghost use Rattle.lent.specs.Given.{given, givenBy};
@@ -15,6 +16,7 @@ use crate::stepping::fetch;
 use crate::stepping::step_once;
 use answer::Answer;
 use answer::number;
+use fold::unlimited;
 use machine::Ring;
 use machine::Rules;
 use queue::slot_ahead;
@@ -45,7 +47,7 @@ fn ran(answer: Answer, writes: u64, head: u32, length: u32, before: u32, taken: 
     }
 }
 
-// Steps while steps taken are below a ceiling, up to the first answer not 0, where each can be refused by 10 only.
+// Steps while steps taken are below a ceiling, up to the first answer not 0, where each can be refused by 10 only; told whether both limits are M.
 fn play(
     core: &mut [u64],
     pairs: &[[u64; 4]; 7],
@@ -57,8 +59,9 @@ fn play(
     ring: Ring,
     taken: u32,
     until: u64,
+    whole: bool,
 ) -> Ran
-    requires { ⌜ Ready (unnamed (now core) (now queue) rules ring taken held (now counts) (now threads)) × Plays until (unnamed (now core) (now queue) rules ring taken held (now counts) (now threads)) × (now pairs ≡ fieldPairs) ⌝ }
+    requires { ⌜ Ready (unnamed (now core) (now queue) rules ring taken held (now counts) (now threads)) × Plays until (unnamed (now core) (now queue) rules ring taken held (now counts) (now threads)) × (now pairs ≡ fieldPairs) × (whole ≡ true → Unlimited rules) ⌝ }
     ensures { λ r. ⌜ given (told (r .answer)) (r .writes) (r .steps) (unnamed (now (core .exit)) (now (queue .exit)) rules (r .ring) (r .taken) held (now (counts .exit)) (now (threads .exit)))
         ≡ givenBy (playsOf (until - taken) (unnamed (now (core .entry)) (now (queue .entry)) rules ring taken held (now (counts .entry)) (now (threads .entry)))) ⌝ }
 {
@@ -83,12 +86,13 @@ fn play(
             tail,
             length,
             f,
+            whole,
         );
         head = s.head;
         tail = s.tail;
         length = s.length;
         done = done + 1;
-        writes = writes + s.writes as u64;
+        writes = writes + s.writes;
         let answer = s.answer;
         if !is_done(answer) {
             return ran(answer, writes, head, length, taken, done);
@@ -127,7 +131,7 @@ fn limit(ceiling: u64, taken: u32, trusted: bool) -> u64
     taken as u64 + 1
 }
 
-// The steps up to the ceiling where the record is trusted; else the next step, its refusal asked first.
+// The steps up to the ceiling where the record is trusted; else the next step, its refusal asked first. Told whether both limits are M.
 fn ask(
     core: &mut [u64],
     pairs: &[[u64; 4]; 7],
@@ -140,8 +144,9 @@ fn ask(
     taken: u32,
     ceiling: u64,
     trusted: bool,
+    whole: bool,
 ) -> Ran
-    requires { ⌜ Ready (unnamed (now core) (now queue) rules ring taken held (now counts) (now threads)) × (trusted ≡ true → Scanned ceiling (unnamed (now core) (now queue) rules ring taken held (now counts) (now threads))) × (now pairs ≡ fieldPairs) ⌝ }
+    requires { ⌜ Ready (unnamed (now core) (now queue) rules ring taken held (now counts) (now threads)) × (trusted ≡ true → Scanned ceiling (unnamed (now core) (now queue) rules ring taken held (now counts) (now threads))) × (now pairs ≡ fieldPairs) × (whole ≡ true → Unlimited rules) ⌝ }
     ensures { λ r. ⌜ given (told (r .answer)) (r .writes) (r .steps) (unnamed (now (core .exit)) (now (queue .exit)) rules (r .ring) (r .taken) held (now (counts .exit)) (now (threads .exit)))
         ≡ givenBy (playsOf (cond trusted ceiling (taken + 1) - taken) (unnamed (now (core .entry)) (now (queue .entry)) rules ring taken held (now (counts .entry)) (now (threads .entry)))) ⌝ }
 {
@@ -171,6 +176,7 @@ fn ask(
         ring,
         taken,
         until,
+        whole,
     )
 }
 
@@ -229,6 +235,7 @@ pub(crate) fn run_loop(
     ensures { λ r. ⌜ given (told (r .answer)) (r .writes) (r .steps) (unnamed (now (core .exit)) (now (queue .exit)) rules (r .ring) (r .taken) held (now (counts .exit)) (now (threads .exit)))
         ≡ givenBy (playsOf (ceiling - taken) (unnamed (now (core .entry)) (now (queue .entry)) rules ring taken held (now (counts .entry)) (now (threads .entry)))) ⌝ }
 {
+    let whole = unlimited(rules);
     let pairs = field_pairs();
     let trusted = trusts(
         core,
@@ -258,6 +265,7 @@ pub(crate) fn run_loop(
             done,
             ceiling,
             trusted,
+            whole,
         );
         let after = s.ring;
         head = after.head;

@@ -41,6 +41,7 @@ outcomes =
     fresh (ofSize 2) (0 ∷ 0 ∷ []) (0 ∷ [])
     ∷ fresh (ofSize 0) [] (0 ∷ [])
     ∷ fresh (ofSize 2) (0 ∷ []) (0 ∷ [])
+    ∷ fresh (record { size = 2; read = 2; write = 0 }) (0 ∷ 0 ∷ []) (0 ∷ [])
     ∷ load (two 1) [] dat 65535 0
     ∷ load (machineOf (0 ∷ []) (0 ∷ []) (blank (ofSize 2))) [] dat 65535 0
     ∷ load (two 1) [] (dat ++ (dat ++ dat)) 65535 0
@@ -53,6 +54,6 @@ outcomes =
     ∷ []
 
 pub each-occurs : map toldBy outcomes
-    ≡ gives 0 0 ∷ gives 1 0 ∷ gives 2 0 ∷ gives 0 0 ∷ gives 9 0 ∷ gives 3 0 ∷ gives 4 1 ∷ gives 5 0 ∷ gives 5 0 ∷ gives 6 0 ∷ gives 6 0 ∷ gives 8 0 ∷ []
+    ≡ gives 0 0 ∷ gives 1 0 ∷ gives 2 0 ∷ gives 14 0 ∷ gives 0 0 ∷ gives 9 0 ∷ gives 3 0 ∷ gives 4 1 ∷ gives 5 0 ∷ gives 5 0 ∷ gives 6 0 ∷ gives 6 0 ∷ gives 8 0 ∷ []
 unfolding outcomes
 each-occurs = refl

@@ -41,13 +41,7 @@ readable-requires c κs =
     let c2 = c .before .before in
     let c3 = c2 .before in
     let c7 = c3 .before .before .before .before in
-    record {
-      valid = c7 .pre .0;
-      cells = c7 .pre .1;
-      place = c7 .pre .2;
-      is = refl;
-      sound = (upheld (c3 .sound .ensures) (c2 .if1 .left));
-    }
+    (record { valid = c7 .pre .0; cells = c7 .pre .1; place = c7 .pre .2; is = refl; sound = upheld (c3 .sound .ensures) (c2 .if1 .left) }, c7 .pre .3)
 
 returns-3 : tie.Need-returns-3
 returns-3 c =

@@ -13,7 +13,7 @@ use Rattle.machine.specs.Soundness.{soundFront}
 use Rattle.lent.specs.Parts.{unnamed}
 use Rattle.soundness.proofs.Headers.{entry-by-parts}
 use Rattle.refusal.specs.Checks.{inBounds}
-use Rattle.refusal.proofs.Refusing.{in-bounds-tests, out-of-bounds, head-below, size-most, cells, empty, unsound-front, place-below, numbers-end, by-cell}
+use Rattle.refusal.proofs.Refusing.{in-bounds-tests, out-of-bounds, head-below, size-most, cells, limits, empty, unsound-front, place-below, numbers-end, by-cell}
 
 -- the machine of the lent parts
 abbrev lent : (c : tie.Start) → Machine
@@ -21,11 +21,14 @@ lent c =
     let a = c .args in
     unnamed (a .core .now) (a .queue .now) (a .rules) (a .ring) (a .taken) (a .held) (a .counts .now) (a .threads .now)
 
-is-in-bounds : (c : tie.Else1) → inBounds (lent (c .before .before .before .before .before .before .before)) ≡ true
-is-in-bounds c = upheld (in-bounds-tests (lent (c .before .before .before .before .before .before .before))) (c .if1 .left)
+is-in-bounds : (c : tie.Else1) → inBounds (lent (c .before .before .before .before .before .before .before .before)) ≡ true
+is-in-bounds c = upheld (in-bounds-tests (lent (c .before .before .before .before .before .before .before .before)) (c .before .before .before .before .before .valid-limits .ensures)) (c .if1 .left)
 
-front-sound : (c : tie.Else3) → soundFront (lent (c .before .before .before .before .before .before .before .before .before .before .before .before .before)) ≡ true
-front-sound c = upheld (c .before .sound-front .ensures ∙ entry-by-parts (lent (c .before .before .before .before .before .before .before .before .before .before .before .before .before) .header) _) (c .if3 .left)
+front-sound : (c : tie.Else3) → soundFront (lent (c .before .before .before .before .before .before .before .before .before .before .before .before .before .before)) ≡ true
+front-sound c = upheld (c .before .sound-front .ensures ∙ entry-by-parts (lent (c .before .before .before .before .before .before .before .before .before .before .before .before .before .before) .header) _) (c .if3 .left)
+
+valid-limits-requires : tie.Need-valid-limits-requires
+valid-limits-requires c κs = search needs
 
 cast-in-bounds : tie.Need-cast-in-bounds
 cast-in-bounds c = search needs
@@ -35,14 +38,14 @@ cast-in-bounds-2 c = search needs
 
 returns : tie.Need-returns
 returns c =
-    let c7 = c .before .before .before .before .before .before .before in
-    out-of-bounds (lent c7) (refuted (in-bounds-tests (lent c7)) (c .if1 .taken))
+    let c8 = c .before .before .before .before .before .before .before .before in
+    out-of-bounds (lent c8) (refuted (in-bounds-tests (lent c8) (c .before .before .before .before .before .valid-limits .ensures)) (c .if1 .taken))
 
 returns-2 : tie.Need-returns-2
 returns-2 c =
     let c2 = c .before .before in
-    let c9 = c2 .before .before .before .before .before .before .before in
-    empty (lent c9) (is-in-bounds c2) (c .if2 .taken)
+    let c10 = c2 .before .before .before .before .before .before .before .before in
+    empty (lent c10) (is-in-bounds c2) (c .if2 .taken)
 
 cast-head : tie.Need-cast-head
 cast-head c = search needs
@@ -53,8 +56,8 @@ mul-w c = search needs
 shared-slice-read-w : tie.Need-shared-slice-read-w
 shared-slice-read-w c =
     let c4 = c .before .before .before .before in
-    let c11 = c4 .before .before .before .before .before .before .before in
-    head-below (lent c11) (is-in-bounds c4)
+    let c12 = c4 .before .before .before .before .before .before .before .before in
+    head-below (lent c12) (is-in-bounds c4)
 
 sound-front-requires : tie.Need-sound-front-requires
 sound-front-requires c κs = search needs
@@ -63,8 +66,8 @@ returns-3 : tie.Need-returns-3
 returns-3 c =
     let c4 = c .before .before .before .before in
     let c6 = c4 .before .before in
-    let c13 = c6 .before .before .before .before .before .before .before in
-    unsound-front (lent c13) (is-in-bounds c6) (c4 .if2 .left) (refuted (c .before .sound-front .ensures ∙ entry-by-parts (lent c13 .header) _) (c .if3 .taken))
+    let c14 = c6 .before .before .before .before .before .before .before .before in
+    unsound-front (lent c14) (is-in-bounds c6) (c4 .if2 .left) (refuted (c .before .sound-front .ensures ∙ entry-by-parts (lent c14 .header) _) (c .if3 .taken))
 
 unpack-requires : tie.Need-unpack-requires
 unpack-requires c κs = search needs
@@ -78,8 +81,8 @@ returns-4 c =
     let c3 = c2 .before in
     let c7 = c3 .before .before .before .before in
     let c9 = c7 .before .before in
-    let c16 = c9 .before .before .before .before .before .before .before in
-    numbers-end (lent c16) (is-in-bounds c9) (c7 .if2 .left) (front-sound c3) (rw (ap (λ (e : Entry). e .name) (c2 .unpack .ensures)) at (sym (c .before .exhausted .ensures) ∙ c .if4 .taken))
+    let c17 = c9 .before .before .before .before .before .before .before .before in
+    numbers-end (lent c17) (is-in-bounds c9) (c7 .if2 .left) (front-sound c3) (rw (ap (λ (e : Entry). e .name) (c2 .unpack .ensures)) at (sym (c .before .exhausted .ensures) ∙ c .if4 .taken))
 
 cell-refusal-requires : tie.Need-cell-refusal-requires
 cell-refusal-requires c κs =
@@ -87,8 +90,8 @@ cell-refusal-requires c κs =
     let c3 = c2 .before in
     let c7 = c3 .before .before .before .before in
     let c9 = c7 .before .before in
-    let c16 = c9 .before .before .before .before .before .before .before in
-    (size-most (lent c16) (is-in-bounds c9), cells (lent c16) (is-in-bounds c9), rw (c2 .unpack .ensures) (place-below (lent c16) (is-in-bounds c9) (c7 .if2 .left) (front-sound c3)))
+    let c17 = c9 .before .before .before .before .before .before .before .before in
+    (size-most (lent c17) (is-in-bounds c9), cells (lent c17) (is-in-bounds c9), rw (c2 .unpack .ensures) (place-below (lent c17) (is-in-bounds c9) (c7 .if2 .left) (front-sound c3)), limits (lent c17) (is-in-bounds c9))
 
 returns-5 : tie.Need-returns-5
 returns-5 c =
@@ -97,14 +100,15 @@ returns-5 c =
     let c4 = c3 .before in
     let c8 = c4 .before .before .before .before in
     let c10 = c8 .before .before in
-    let c17 = c10 .before .before .before .before .before .before .before in
-    by-cell (lent c17) (is-in-bounds c10) (c8 .if2 .left) (front-sound c4) (rw (ap (λ (e : Entry). e .name) (c3 .unpack .ensures)) at (sym (c2 .exhausted .ensures) ∙ c .before .if4 .left))
+    let c18 = c10 .before .before .before .before .before .before .before .before in
+    by-cell (lent c18) (is-in-bounds c10) (c8 .if2 .left) (front-sound c4) (rw (ap (λ (e : Entry). e .name) (c3 .unpack .ensures)) at (sym (c2 .exhausted .ensures) ∙ c .before .if4 .left))
     (rw (c3 .unpack .ensures) at (c .cell-refusal .ensures))
 
 pub refusal-spec : {M : Type 1} → statement M
 refusal-spec =
     tie.close
     (tie.spec
+    valid-limits-requires
     cast-in-bounds
     cast-in-bounds-2
     returns

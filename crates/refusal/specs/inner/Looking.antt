@@ -1,4 +1,4 @@
--- The other cells that an instruction reads, looked at and nothing written: an operand's two, and the word that it leaves at its location; and the rows of a step that look at cells.
+-- The other cells that an instruction reads, looked at and nothing written: where both limits are M an operand's two, and the word that it leaves at its location; and the rows of a step that look at cells.
 -- Inner. Assumes nothing.
 use Prim.Native.Nat.{ℕ}
 use mathlib.Core.Bool.{Bool, true, not, _&&_}
@@ -10,7 +10,8 @@ use Rattle.cell.specs.Cells.{packed, unpacked, soundWord, number, withNumber}
 use Rattle.types.specs.Types.{Field}
 use Rattle.types.specs.Opcode.{LDP, STP}
 use Rattle.machine.specs.State.{Check, check}
-use Rattle.machine.specs.Pointers.{Reach, here, there, through, Shift, keeps, lowers, raises, reaches, shifts, fieldOf, less, more, used, Site}
+use Rattle.machine.specs.Pointers.{Reach, here, there, through, Shift, keeps, lowers, raises, reaches, shifts, fieldOf, less, more, Site}
+use Rattle.machine.specs.Whole.{used, formerAt}
 use Rattle.machine.specs.Instruction.{fetched, seenAt}
 
 -- the cell at the pointer, of a mode that goes through a number of the word at the location; `#` points at PC, `$` at the location
@@ -31,6 +32,10 @@ leftBy raises size w f = packed (withNumber f (more size (number f (unpacked w))
 
 unfoldable pub left : ℕ → ℕ → ℕ → ℕ
 left size w mode = leftBy (getD shifts mode keeps) size w (fieldOf (getD reaches mode here))
+
+-- the other cells read where both limits are M
+abbrev pub formerSound : Site → List ℕ → Bool
+formerSound s core = every (soundWord (s .rules .size)) (formerAt s core .seen)
 
 -- the other cells read
 abbrev pub soundSeenAt : Site → List ℕ → Bool

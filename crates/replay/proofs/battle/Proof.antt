@@ -30,6 +30,9 @@ slice-relend-prefix-lent c = search needs
 slice-aggregate-lent : tie.Need-slice-aggregate-lent
 slice-aggregate-lent c = sym (length-take-le _ _ (c .before .if1 .left))
 
+of-size-requires : tie.Need-of-size-requires
+of-size-requires c κs = search needs
+
 fresh-requires : tie.Need-fresh-requires
 fresh-requires c κs = search needs
 
@@ -60,6 +63,7 @@ battle-spec =
     returns
     slice-relend-prefix-lent
     slice-aggregate-lent
+    of-size-requires
     fresh-requires
     after-requires-2
     calls-requires

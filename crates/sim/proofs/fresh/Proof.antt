@@ -1,39 +1,53 @@
 -- `sim::fresh` meets its contract.
 -- Assumes nothing.
 use borrow.Author.Needs.{needs}
-use mathlib.Core.Path.{_∙_}
 use Rattle.sim.proofs.fresh.Statement.{statement}
 use Rattle.sim.proofs.fresh.Tie as tie
-use Rattle.sim.proofs.FreshMachine.{bad-size, bad-memory, made}
 use Rattle.sim.proofs.Refusals.{refusing}
+use Rattle.sim.proofs.FreshMachine.{bad-size, bad-memory, bad-limit, made}
+use Rattle.laws.proofs.Tests.{refuted, upheld}
 
-blank-requires : tie.Need-blank-requires
-blank-requires c κs = search needs
-
-refuse-requires : tie.Need-refuse-requires
-refuse-requires c κs = search needs
+no-machine-requires : tie.Need-no-machine-requires
+no-machine-requires c κs = search needs
 
 returns : tie.Need-returns
 returns c =
-    let s = c .before .before .before .before .before .args in
-    let r = c .refuse .ensures in
-    refusing (s .core .now) (s .queue .now) (r .0, r .1, r .2, r .3 ∙ c .before .blank .ensures) (bad-size (s .rules) (s .core .now) (s .queue .now) (c .before .before .if1 .taken))
+    let c1 = c .before in
+    let c4 = c1 .before .before .before in
+    let s = c4 .args in
+    refusing (s .core .now) (s .queue .now) (c .no-machine .ensures) (bad-size (s .rules) (s .core .now) (s .queue .now) (c1 .if1 .taken))
 
 cast-if2 : tie.Need-cast-if2
 cast-if2 c = search needs
 
-blank-requires-2 : tie.Need-blank-requires-2
-blank-requires-2 c κs = search needs
-
-refuse-requires-2 : tie.Need-refuse-requires-2
-refuse-requires-2 c κs = search needs
+no-machine-requires-2 : tie.Need-no-machine-requires-2
+no-machine-requires-2 c κs = search needs
 
 returns-2 : tie.Need-returns-2
 returns-2 c =
-    let s = c .before .before .before .before .before .before .args in
-    let r = c .refuse2 .ensures in
-    refusing (s .core .now) (s .queue .now) (r .0, r .1, r .2, r .3 ∙ c .before .blank2 .ensures)
-    (bad-memory (s .rules) (s .core .now) (s .queue .now) (c .before .before .before .if1 .left) (c .before .before .if2 .taken))
+    let c1 = c .before in
+    let c2 = c1 .before in
+    let c5 = c2 .before .before .before in
+    let s = c5 .args in
+    refusing (s .core .now) (s .queue .now) (c .no-machine2 .ensures)
+    (bad-memory (s .rules) (s .core .now) (s .queue .now) (c2 .if1 .left) (c1 .if2 .taken))
+
+valid-limits-requires : tie.Need-valid-limits-requires
+valid-limits-requires c κs = search needs
+
+no-machine-requires-3 : tie.Need-no-machine-requires-3
+no-machine-requires-3 c κs = search needs
+
+returns-3 : tie.Need-returns-3
+returns-3 c =
+    let c1 = c .before in
+    let c2 = c1 .before in
+    let c3 = c2 .before in
+    let c4 = c3 .before in
+    let c7 = c4 .before .before .before in
+    let s = c7 .args in
+    refusing (s .core .now) (s .queue .now) (c .no-machine3 .ensures)
+    (bad-limit (s .rules) (s .core .now) (s .queue .now) (c4 .if1 .left) (c3 .if2 .left) (refuted (c2 .valid-limits .ensures) (c1 .if3 .taken)))
 
 fresh-cell-requires : tie.Need-fresh-cell-requires
 fresh-cell-requires c κs = search needs
@@ -44,8 +58,8 @@ fill-requires c κs = search needs
 fill-requires-2 : tie.Need-fill-requires-2
 fill-requires-2 c κs = search needs
 
-blank-requires-3 : tie.Need-blank-requires-3
-blank-requires-3 c κs = search needs
+blank-requires : tie.Need-blank-requires
+blank-requires c κs = search needs
 
 same-length : tie.Need-same-length
 same-length c = search needs
@@ -53,29 +67,36 @@ same-length c = search needs
 same-length-2 : tie.Need-same-length-2
 same-length-2 c = search needs
 
-returns-3 : tie.Need-returns-3
-returns-3 c =
-    let s = c .before .before .before .before .before .before .before .before .before .before .before .before .before .before .args in
-    made (s .rules) (s .core .now) (s .queue .now) (c .before .before .before .before .before .before .before .before .before .before .before .if1 .left)
-    (c .before .before .before .before .before .before .before .before .before .before .if2 .left)
-    (c .before .before .before .before .before .before .before .before .fresh-cell .ensures)
-    (c .before .before .before .before .before .before .before .fill .ensures) (c .before .before .before .fill2 .ensures) (c .blank3 .ensures)
+returns-4 : tie.Need-returns-4
+returns-4 c =
+    let c3 = c .before .before .before in
+    let c7 = c3 .before .before .before .before in
+    let c8 = c7 .before in
+    let c10 = c8 .before .before in
+    let c11 = c10 .before in
+    let c12 = c11 .before in
+    let c13 = c12 .before in
+    let c16 = c13 .before .before .before in
+    let s = c16 .args in
+    made (s .rules) (s .core .now) (s .queue .now) (c13 .if1 .left) (c12 .if2 .left) (upheld (c11 .valid-limits .ensures) (c10 .if3 .left))
+    (c8 .fresh-cell .ensures) (c7 .fill .ensures) (c3 .fill2 .ensures) (c .blank .ensures)
 
 pub fresh-spec : {M : Type 1} → statement M
 fresh-spec =
     tie.close
     (tie.spec
-    blank-requires
-    refuse-requires
+    no-machine-requires
     returns
     cast-if2
-    blank-requires-2
-    refuse-requires-2
+    no-machine-requires-2
     returns-2
+    valid-limits-requires
+    no-machine-requires-3
+    returns-3
     fresh-cell-requires
     fill-requires
     fill-requires-2
-    blank-requires-3
+    blank-requires
     same-length
     same-length-2
-    returns-3)
+    returns-4)

@@ -3,10 +3,13 @@
 use borrow.Author.Needs.{needs}
 use Rattle.battle.proofs.playing.play_file.Statement.{statement}
 use Rattle.battle.proofs.playing.play_file.Tie as tie
-use mathlib.Core.Path.{sym, _∙_}
+use mathlib.Core.Path.{sym, ap, _∙_}
 use lib.ListN.{take}
 use lib.Seq.{length-take-le}
 use native.Mathlib.Omega.{arith}
+use Rattle.machine.specs.declared.Rules.{Rules}
+use Rattle.machine.specs.Fresh.{fresh}
+use Rattle.battle.specs.Match.{afterFresh}
 use Rattle.battle.proofs.Plays.{refusal-comes, too-long, malformed, too-big, fits}
 
 refuse-requires : tie.Need-refuse-requires
@@ -58,6 +61,9 @@ slice-relend-prefix-lent c = search needs
 slice-aggregate-lent : tie.Need-slice-aggregate-lent
 slice-aggregate-lent c = sym (length-take-le (c .before .before .before .before .before .before .read .result .size) (c .before .before .before .before .before .before .before .before .before .before .before .args .core .now) (omega (arith, c .before .before .if3 .left, c .before .before .before .before .before .before .before .before .before .before .before .pre .0)))
 
+of-size-requires : tie.Need-of-size-requires
+of-size-requires c κs = search needs
+
 play-loaded-requires : tie.Need-play-loaded-requires
 play-loaded-requires c κs = search needs
 
@@ -70,13 +76,16 @@ same-length-2 c = search needs
 returns-4 : tie.Need-returns-4
 returns-4 c =
     let play-loaded = c .before .before .before .before .play-loaded in
-    let if3 = c .before .before .before .before .before .before .before .before .if3 in
-    let if2 = c .before .before .before .before .before .before .before .before .before .before .if2 in
-    let number = c .before .before .before .before .before .before .before .before .before .before .before .number in
-    let read = c .before .before .before .before .before .before .before .before .before .before .before .before .read in
-    let if1 = c .before .before .before .before .before .before .before .before .before .before .before .before .before .if1 in
-    let start = c .before .before .before .before .before .before .before .before .before .before .before .before .before .before .before .before .before in (
-      play-loaded .ensures .0 ∙ fits (start .args .file .now) (omega (arith, if1 .left)) (read .result .answer) (read .ensures .0) (number .ensures)
+    let if3 = c .before .before .before .before .before .before .before .before .before .if3 in
+    let if2 = c .before .before .before .before .before .before .before .before .before .before .before .if2 in
+    let number = c .before .before .before .before .before .before .before .before .before .before .before .before .number in
+    let read = c .before .before .before .before .before .before .before .before .before .before .before .before .before .read in
+    let if1 = c .before .before .before .before .before .before .before .before .before .before .before .before .before .before .if1 in
+    let start = c .before .before .before .before .before .before .before .before .before .before .before .before .before .before .before .before .before .before in (
+      play-loaded .ensures .0
+          ∙ ap (λ (r : Rules). afterFresh (start .args .file .now) (fresh r (take (read .result .size) (start .args .core .now)) (start .args .queue .now)))
+          (c .before .before .before .before .before .before .of-size .ensures)
+          ∙ fits (start .args .file .now) (omega (arith, if1 .left)) (read .result .answer) (read .ensures .0) (number .ensures)
           (if2 .left) (read .ensures .2) (omega (arith, if3 .left)) (take (read .result .size) (start .args .core .now)) (start .args .queue .now)
           (length-take-le (read .result .size) (start .args .core .now) (omega (arith, if3 .left, start .pre .0))) (start .pre .1),
       play-loaded .ensures .1,
@@ -97,6 +106,7 @@ play-file-spec =
     cast-cells
     slice-relend-prefix-lent
     slice-aggregate-lent
+    of-size-requires
     play-loaded-requires
     same-length
     same-length-2

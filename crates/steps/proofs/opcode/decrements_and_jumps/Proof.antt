@@ -67,8 +67,8 @@ returns c =
 add-requires : tie.Need-add-requires
 add-requires c κs = search needs
 
-add-t22 : tie.Need-add-t22
-add-t22 c = search needs
+add-t21 : tie.Need-add-t21
+add-t21 c = search needs
 
 same-length-2 : tie.Need-same-length-2
 same-length-2 c = search needs
@@ -105,6 +105,6 @@ decrements-and-jumps-spec =
     same-length
     returns
     add-requires
-    add-t22
+    add-t21
     same-length-2
     returns-2)

@@ -88,8 +88,8 @@ returns-3 c =
 add-requires-2 : tie.Need-add-requires-2
 add-requires-2 c κs = search needs
 
-add-t34 : tie.Need-add-t34
-add-t34 c = search needs
+add-t26 : tie.Need-add-t26
+add-t26 c = search needs
 
 same-length-3 : tie.Need-same-length-3
 same-length-3 c = search needs
@@ -128,6 +128,6 @@ divides-spec =
     same-length-2
     returns-3
     add-requires-2
-    add-t34
+    add-t26
     same-length-3
     returns-4)

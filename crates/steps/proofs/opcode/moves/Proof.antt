@@ -27,8 +27,8 @@ mul-core c = search needs
 slice-write-core : tie.Need-slice-write-core
 slice-write-core c = search needs
 
-add-t25 : tie.Need-add-t25
-add-t25 c = search needs
+add-t22 : tie.Need-add-t22
+add-t22 c = search needs
 
 same-length : tie.Need-same-length
 same-length c = search needs
@@ -58,8 +58,8 @@ mul-core-2 c = search needs
 slice-write-core-2 : tie.Need-slice-write-core-2
 slice-write-core-2 c = search needs
 
-add-t27 : tie.Need-add-t27
-add-t27 c = search needs
+add-t20 : tie.Need-add-t20
+add-t20 c = search needs
 
 same-length-2 : tie.Need-same-length-2
 same-length-2 c = search needs
@@ -84,13 +84,13 @@ moves-spec =
     copy-requires
     mul-core
     slice-write-core
-    add-t25
+    add-t22
     same-length
     returns
     meet-requires
     store-requires
     mul-core-2
     slice-write-core-2
-    add-t27
+    add-t20
     same-length-2
     returns-2)

@@ -55,8 +55,8 @@ mul-core c = search needs
 slice-write-core : tie.Need-slice-write-core
 slice-write-core c = search needs
 
-add-t29 : tie.Need-add-t29
-add-t29 c = search needs
+add-t26 : tie.Need-add-t26
+add-t26 c = search needs
 
 same-length : tie.Need-same-length
 same-length c = search needs
@@ -77,8 +77,8 @@ mul-core-2 c = search needs
 slice-write-core-2 : tie.Need-slice-write-core-2
 slice-write-core-2 c = search needs
 
-add-t31 : tie.Need-add-t31
-add-t31 c = search needs
+add-t24 : tie.Need-add-t24
+add-t24 c = search needs
 
 same-length-2 : tie.Need-same-length-2
 same-length-2 c = search needs
@@ -106,13 +106,13 @@ sums-spec =
     with-number-at-requires
     mul-core
     slice-write-core
-    add-t29
+    add-t26
     same-length
     returns
     value-requires-2
     store-requires
     mul-core-2
     slice-write-core-2
-    add-t31
+    add-t24
     same-length-2
     returns-2)

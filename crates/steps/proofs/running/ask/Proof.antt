@@ -63,6 +63,7 @@ play-requires c κs =
       subst (λ (u : ℕ). Plays u (machine s)) (sym (c4 .limit .ensures))
           (not-refused (s .args .ceiling) (machine s) (s .pre .0) (s .args .trusted) (c7 .asked .result) (c7 .asked .ensures) (upheld (c6 .is-done .ensures) (c5 .if1 .left)) (s .pre .1)),
       s .pre .2,
+      s .pre .3,
     )
 
 same-length-3 : tie.Need-same-length-3

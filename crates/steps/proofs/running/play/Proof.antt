@@ -19,11 +19,11 @@ use Rattle.steps.proofs.Loop.{begun, over, giving}
 use Rattle.steps.proofs.Rounds.{Round, can-count, can-fetch, cell-small, private-stops, can-step, writes-few, since-start, step-stops, goes-round}
 
 abbrev Inv-loop : tie.InvT-loop
-Inv-loop core₀ pairs queue₀ counts₀ threads₀ rules held taken until head₀ length₀ tail₀ done₀ writes₀ core queue counts threads head length tail done writes = Round until (unnamed core₀ queue₀ rules (ringOf head₀ length₀) taken held counts₀ threads₀) (unnamed core queue rules (ringOf head length) done held counts threads) writes tail
+Inv-loop core₀ pairs queue₀ counts₀ threads₀ rules held taken until whole head₀ length₀ tail₀ done₀ writes₀ core queue counts threads head length tail done writes = Round until (unnamed core₀ queue₀ rules (ringOf head₀ length₀) taken held counts₀ threads₀) (unnamed core queue rules (ringOf head length) done held counts threads) writes tail
     × (lists.length core ≡ lists.length core₀) × (lists.length queue ≡ lists.length queue₀)
 
 abbrev μ-loop : tie.MeasureT-loop
-μ-loop core₀ pairs queue₀ counts₀ threads₀ rules held taken until head₀ length₀ tail₀ done₀ writes₀ core queue counts threads head length tail done writes = until - done
+μ-loop core₀ pairs queue₀ counts₀ threads₀ rules held taken until whole head₀ length₀ tail₀ done₀ writes₀ core queue counts threads head length tail done writes = until - done
 
 cast-slot-ahead : tie.Need-cast-slot-ahead Inv-loop μ-loop
 cast-slot-ahead c = let l = slots-le _ (c .before .before .pre .0) in record { fits = omega arith }
@@ -84,16 +84,13 @@ step-once-requires c κs =
     let c6 = c5 .before in
     let c9 = c6 .before .before .before in
     let c10 = c9 .before in
-    let s = can-step (c10 .loop .inv .0) (c9 .loop-test .taken) (c6 .fetch .ensures .1) (c5 .opcode .ensures) (c4 .if1 .left) in (s .0, c6 .fetch .ensures .0, s .1, c10 .before .before .before .before .pre .2)
+    let s = can-step (c10 .loop .inv .0) (c9 .loop-test .taken) (c6 .fetch .ensures .1) (c5 .opcode .ensures) (c4 .if1 .left) in (s .0, c6 .fetch .ensures .0, s .1, c10 .before .before .before .before .pre .2, c10 .before .before .before .before .pre .3)
 
 add-done : tie.Need-add-done Inv-loop μ-loop
 add-done c =
     let c14 = c .before .before .before .before .before .before .before .before .before .before .before .before .before .before in
     let c15 = c14 .before in
     let h = can-count (c15 .loop .inv .0) (c14 .loop-test .taken) in record { fits = omega arith }
-
-cast-writes : tie.Need-cast-writes Inv-loop μ-loop
-cast-writes c = search needs
 
 add-writes : tie.Need-add-writes Inv-loop μ-loop
 add-writes c =
@@ -210,7 +207,6 @@ play-spec =
     returns
     step-once-requires
     add-done
-    cast-writes
     add-writes
     is-done-requires
     ran-requires-2

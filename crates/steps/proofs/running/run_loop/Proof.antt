@@ -3,24 +3,28 @@
 use borrow.Author.Needs.{needs}
 use Rattle.steps.proofs.running.run_loop.Statement.{statement}
 use Rattle.steps.proofs.running.run_loop.Tie as tie
-use mathlib.Core.Path.{_≡_, refl, _∙_}
+use mathlib.Core.Path.{_≡_, refl, sym, _∙_}
 use Prim.Native.Nat.{ℕ, _-_, _≤_}
 use native.Mathlib.Omega.{arith}
 use lib.ListN as lists
 use Rattle.laws.proofs.Tests.{refuted, upheld}
 use Rattle.machine.specs.declared.Ring.{Ring}
+use Rattle.machine.proofs.Whole.{is-unlimited}
 use Rattle.lent.specs.Parts.{unnamed}
 use Rattle.steps.specs.inner.Queueing.{ringOf}
 use Rattle.steps.proofs.Loop.{Going, begun, over, giving}
 use Rattle.steps.proofs.Rounds.{Trusting, call-writes, call-since, call-stops, call-again, call-rises, call-trusting}
 
 abbrev Inv-loop : tie.InvT-loop
-Inv-loop core₀ queue₀ counts₀ threads₀ rules held taken ceiling pairs trusted head₀ length₀ done₀ writes₀ core queue counts threads head length done writes = Going ceiling (unnamed core₀ queue₀ rules (ringOf head₀ length₀) taken held counts₀ threads₀) (unnamed core queue rules (ringOf head length) done held counts threads) writes
+Inv-loop core₀ queue₀ counts₀ threads₀ rules held taken ceiling whole pairs trusted head₀ length₀ done₀ writes₀ core queue counts threads head length done writes = Going ceiling (unnamed core₀ queue₀ rules (ringOf head₀ length₀) taken held counts₀ threads₀) (unnamed core queue rules (ringOf head length) done held counts threads) writes
     × Trusting ceiling (unnamed core queue rules (ringOf head length) done held counts threads) trusted × (lists.length core ≡ lists.length core₀)
     × (lists.length queue ≡ lists.length queue₀) × (done ≤ 4294967295)
 
 abbrev μ-loop : tie.MeasureT-loop
-μ-loop core₀ queue₀ counts₀ threads₀ rules held taken ceiling pairs trusted head₀ length₀ done₀ writes₀ core queue counts threads head length done writes = ceiling - done
+μ-loop core₀ queue₀ counts₀ threads₀ rules held taken ceiling whole pairs trusted head₀ length₀ done₀ writes₀ core queue counts threads head length done writes = ceiling - done
+
+unlimited-requires : tie.Need-unlimited-requires Inv-loop μ-loop
+unlimited-requires c κs = search needs
 
 field-pairs-requires : tie.Need-field-pairs-requires Inv-loop μ-loop
 field-pairs-requires c κs = search needs
@@ -30,8 +34,8 @@ trusts-requires c κs = search needs
 
 loop-holds : tie.Need-loop-holds Inv-loop μ-loop
 loop-holds c =
-    let c8 = c .before .before .before .before .before .before .before .before in
-    (begun _ _ (c8 .pre), λ h. c .trusts .ensures, refl, refl, omega (arith, c8 .fits .taken .fits))
+    let c9 = c .before .before .before .before .before .before .before .before .before in
+    (begun _ _ (c9 .pre), λ h. c .trusts .ensures, refl, refl, omega (arith, c9 .fits .taken .fits))
 
 cast-loop : tie.Need-cast-loop Inv-loop μ-loop
 cast-loop c = search needs
@@ -41,7 +45,7 @@ ask-requires c κs =
     let c5 = c .before .before .before .before .before in
     let c6 = c5 .before in
     let c12 = c6 .before .before .before .before .before .before in
-    (c6 .loop .inv .0 .ready, c6 .loop .inv .1 (c5 .loop-test .taken), c12 .field-pairs .ensures)
+    (c6 .loop .inv .0 .ready, c6 .loop .inv .1 (c5 .loop-test .taken), c12 .field-pairs .ensures, λ t. is-unlimited (c12 .before .before .before .before .args .rules) (sym (c12 .before .unlimited .ensures) ∙ t))
 
 add-writes : tie.Need-add-writes Inv-loop μ-loop
 add-writes c =
@@ -84,8 +88,8 @@ returns c =
     let c15 = c9 .before .before .before .before .before .before in
     let c16 = c15 .before in
     let c17 = c16 .before in
-    let c25 = c17 .before .before .before .before .before .before .before .before in
-    let a = c25 .args in
+    let c26 = c17 .before .before .before .before .before .before .before .before .before in
+    let a = c26 .args in
     let s = c9 .ask in
     giving (λ (r : Ring) (t : ℕ). unnamed (s .last .0) (s .last .1 .1 .0) (a .rules) r t (a .held) (s .last .1 .1 .1 .0) (s .last .1 .1 .1 .1 .0)) (a .taken) (c .ran .ensures)
     (call-stops (c16 .loop .inv .0) (c15 .loop-test .taken) (c17 .trusts .result) (s .ensures) (refuted (c2 .is-done .ensures) (c1 .if1 .taken)))
@@ -134,8 +138,8 @@ returns-2 : tie.Need-returns-2 Inv-loop μ-loop
 returns-2 c =
     let c1 = c .before in
     let c2 = c1 .before in
-    let c11 = c2 .before .before .before .before .before .before .before .before .before in
-    let a = c11 .args in
+    let c12 = c2 .before .before .before .before .before .before .before .before .before .before in
+    let a = c12 .args in
     let l = c2 .loop in
     giving (λ (r : Ring) (t : ℕ). unnamed (l .core) (l .queue) (a .rules) r t (a .held) (l .counts) (l .threads)) (a .taken) (c .ran2 .ensures)
     (over (l .inv .0) (omega (arith, c1 .loop-test .left)))
@@ -146,6 +150,7 @@ run-loop-spec =
     (tie.spec
     Inv-loop
     μ-loop
+    unlimited-requires
     field-pairs-requires
     trusts-requires
     loop-holds

@@ -27,7 +27,7 @@ unpack-requires c κs = search needs
 execute-requires : tie.Need-execute-requires
 execute-requires c κs =
     let c4 = c .before .before .before .before in
-    (executable c4 (c .before .unpack .ensures), c4 .pre .3)
+    (executable c4 (c .before .unpack .ensures), c4 .pre .3, c4 .pre .4)
 
 requeue-requires : tie.Need-requeue-requires
 requeue-requires c κs =

@@ -1,7 +1,7 @@
--- `refusal::word_at` meets its contract.
+-- `address::word_at` meets its contract.
 -- Assumes nothing.
-use Rattle.refusal.proofs.word_at.Statement.{statement}
-use Rattle.refusal.proofs.word_at.Tie as tie
+use Rattle.address.proofs.word_at.Statement.{statement}
+use Rattle.address.proofs.word_at.Tie as tie
 use borrow.Author.Tests.{eq-eqb, ne-eqb}
 
 returns : tie.Need-returns
