@@ -21,12 +21,13 @@ typedef struct {
 // imp, dwarf, splitter and mixed; then imps of 2 and of 16 names
 extern const battle BATTLES[ALL];
 
-// What a machine is made of: its sizes, its names and the first one's body, as bytes for a load.
+// What a machine is made of: its rules, the queue's length, its names and the first one's body, as bytes for a load.
 typedef struct {
-    uint32_t size, limit, names, apart, length;
+    uint32_t size, read, write, limit, names, apart, length;
     uint8_t body[12 * M];
 } start;
 
+// with both limits M
 void start_of(start *s, const battle *b);
 void put(start *s, uint32_t at, line l);
 // the name with an index; all begin alike

@@ -2,9 +2,10 @@
 // other in each turn, the least of all turns.
 //   driver TURNS                the least of so many turns, in ns, for measure.py
 //   driver agree SEED COUNT     random records on small cores: the library and the plain C leave the same
-//   driver count WHO BATTLE N   N steps of one battle by WHO (run, plain, pmars, step, plain-step), for instruction counts;
-//                               by idle, N calls of run that play nothing; by fresh, one-call, known-loads and read-loads
-//                               N matches loaded, a fresh machine for each, whatever the battle
+//   driver count WHO BATTLE N [READ WRITE]
+//                               N steps of one battle by WHO (run, plain, pmars, step, plain-step), with these limits or both M,
+//                               for instruction counts; by idle, N calls of run that play nothing; by fresh, one-call,
+//                               known-loads and read-loads N matches loaded, a fresh machine for each, whatever the battle
 //   driver oracle BATTLE N      a battle of N steps as a line for tools/oracle
 #include "matches.h"
 #include "pmars.h"
@@ -14,7 +15,14 @@
 #include <time.h>
 
 // the steps of a turn, in runs and as single steps, how many lengths of runs there are, and the matches loaded in a turn
-enum { TURN = 100000, FEW = 5000, LENGTHS = 3, MATCHES = 100 };
+enum { TURN = 100000, FEW = 5000, LENGTHS = 3, MATCHES = 100, LEAGUES = 3 };
+
+// the limits of a league: how far a process reads and writes
+typedef struct {
+    uint32_t read, write;
+} limits;
+
+static const limits LEAGUE[LEAGUES] = {{M, M}, {2000, 2000}, {4000, 2000}};
 
 static const double NEVER = 1e9;
 
@@ -102,6 +110,31 @@ static void print_run_row(const run_row *row) {
     printf("run %s %ld %.3f %.3f %.3f %.3f\n", row->b->name, row->steps, row->run, row->c, row->full, row->setting_up);
 }
 
+// a row of the table of limits, in one run of a turn's steps: the least of both rivals, in ns per step
+typedef struct {
+    const battle *b;
+    const limits *l;
+    double run, c;
+} limits_row;
+
+static void start_with(const battle *b, const limits *l) {
+    start_of(&begun, b);
+    begun.read = l->read, begun.write = l->write;
+}
+
+static void limits_row_turn(limits_row *row) {
+    start_with(row->b, row->l);
+    library_record(&ours, &begun);
+    plain_record(&plain, &begun);
+    shorten(&row->run, run_turn(sumacadze_run, &ours, TURN));
+    shorten(&row->c, run_turn(plain_run, &plain, TURN));
+    demand(ours.header.steps == TURN && same_records(&ours, &plain), "the two differ, or it ended", row->b->name);
+}
+
+static void print_limits_row(const limits_row *row) {
+    printf("limits %s %u/%u %.3f %.3f\n", row->b->name, row->l->read, row->l->write, row->run, row->c);
+}
+
 // a row of the table of steps
 typedef struct {
     const battle *b;
@@ -155,41 +188,63 @@ static void match_turns(double least[WAYS]) {
     }
 }
 
+// all rows, and the time of a load and of each way of loading a match
+static run_row run_rows[FOUR][LENGTHS];
+static limits_row limits_rows[FOUR][LEAGUES];
+static step_row step_rows[ALL];
+static double load_time, match_times[WAYS];
+
+static void set_rows(void) {
+    const long lengths[LENGTHS] = {100, 10000, 100000};
+    for (int i = 0; i < FOUR; i++)
+        for (int k = 0; k < LENGTHS; k++)
+            run_rows[i][k] = (run_row){&BATTLES[i], lengths[k], NEVER, NEVER, NEVER, NEVER};
+    for (int i = 0; i < FOUR; i++)
+        for (int k = 0; k < LEAGUES; k++)
+            limits_rows[i][k] = (limits_row){&BATTLES[i], &LEAGUE[k], NEVER, NEVER};
+    for (int i = 0; i < ALL; i++)
+        step_rows[i] = (step_row){&BATTLES[i], NEVER, NEVER};
+    load_time = NEVER;
+    for (int i = 0; i < WAYS; i++)
+        match_times[i] = NEVER;
+}
+
 // every row has a part of each turn, so that a time in which the machine is slower falls on all of them
-static void measure(run_row runs[FOUR][LENGTHS], step_row steps[ALL], double *load, double matches[WAYS], int turns) {
-    for (int turn = 0; turn < turns; turn++) {
-        for (int i = 0; i < FOUR; i++)
-            for (int k = 0; k < LENGTHS; k++)
-                run_row_turn(&runs[i][k]);
-        for (int i = 0; i < ALL; i++)
-            step_row_turn(&steps[i]);
-        shorten(load, load_turn());
-        match_turns(matches);
-    }
+static void measure_turn(void) {
+    for (int i = 0; i < FOUR; i++)
+        for (int k = 0; k < LENGTHS; k++)
+            run_row_turn(&run_rows[i][k]);
+    for (int i = 0; i < FOUR; i++)
+        for (int k = 0; k < LEAGUES; k++)
+            limits_row_turn(&limits_rows[i][k]);
+    for (int i = 0; i < ALL; i++)
+        step_row_turn(&step_rows[i]);
+    shorten(&load_time, load_turn());
+    match_turns(match_times);
+}
+
+static void print_rows(void) {
+    for (int i = 0; i < FOUR; i++)
+        for (int k = 0; k < LENGTHS; k++)
+            print_run_row(&run_rows[i][k]);
+    for (int i = 0; i < FOUR; i++)
+        for (int k = 0; k < LEAGUES; k++)
+            print_limits_row(&limits_rows[i][k]);
+    for (int i = 0; i < ALL; i++)
+        print_step_row(&step_rows[i]);
+    printf("load instruction %d %.3f\n", M, load_time);
+    for (int i = 0; i < WAYS; i++)
+        printf("match %s %d %.3f\n", LOADING[i].name, WARRIORS, match_times[i]);
 }
 
 static void rows(int turns) {
     for (int i = 0; i < FOUR; i++)
         same_way(&BATTLES[i]);
-    const long lengths[LENGTHS] = {100, 10000, 100000};
-    static run_row runs[FOUR][LENGTHS];
-    static step_row steps[ALL];
-    double load = NEVER, matches[WAYS] = {NEVER, NEVER, NEVER, NEVER};
     make_match();
-    for (int i = 0; i < FOUR; i++)
-        for (int k = 0; k < LENGTHS; k++)
-            runs[i][k] = (run_row){&BATTLES[i], lengths[k], NEVER, NEVER, NEVER, NEVER};
-    for (int i = 0; i < ALL; i++)
-        steps[i] = (step_row){&BATTLES[i], NEVER, NEVER};
-    measure(runs, steps, &load, matches, turns);
-    for (int i = 0; i < FOUR; i++)
-        for (int k = 0; k < LENGTHS; k++)
-            print_run_row(&runs[i][k]);
-    for (int i = 0; i < ALL; i++)
-        print_step_row(&steps[i]);
-    printf("load instruction %d %.3f\n", M, load);
-    for (int i = 0; i < WAYS; i++)
-        printf("match %s %d %.3f\n", LOADING[i].name, WARRIORS, matches[i]);
+    set_rows();
+    for (int turn = 0; turn < turns; turn++)
+        measure_turn();
+    print_rows();
 }
 
 static void count_matches(const char *who, long matches) {
@@ -199,8 +254,8 @@ static void count_matches(const char *who, long matches) {
             load_match_by(&LOADING[i], &ours);
 }
 
-static void count(const char *who, const battle *b, long steps) {
-    start_of(&begun, b);
+static void count(const char *who, const battle *b, long steps, const limits *l) {
+    start_with(b, l);
     library_record(&ours, &begun);
     if (!strcmp(who, "run"))
         play_run(sumacadze_run, &ours, steps);
@@ -222,8 +277,10 @@ static void count(const char *who, const battle *b, long steps) {
 int main(int n, char **word) {
     if (n == 4 && !strcmp(word[1], "agree"))
         return agree(atoi(word[2]), atoi(word[3]));
-    if (n == 5 && !strcmp(word[1], "count"))
-        return count(word[2], &BATTLES[atoi(word[3])], atol(word[4])), 0;
+    if ((n == 5 || n == 7) && !strcmp(word[1], "count")) {
+        limits l = {n == 7 ? atoi(word[5]) : M, n == 7 ? atoi(word[6]) : M};
+        return count(word[2], &BATTLES[atoi(word[3])], atol(word[4]), &l), 0;
+    }
     if (n == 4 && !strcmp(word[1], "oracle"))
         return oracle(&BATTLES[atoi(word[2])], word[3]), 0;
     if (n == 2)

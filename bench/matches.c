@@ -71,6 +71,6 @@ const way LOADING[WAYS] = {{"fresh", nothing}, {"one-call", one_call}, {"known-l
 
 bool load_match_by(const way *w, record *r) {
     r->size = M, r->limit = LIMIT;
-    r->header = sumacadze_fresh((sumacadze_rules_t){M}, r->core, M, r->queue, LIMIT).header;
+    r->header = sumacadze_fresh(sumacadze_rules_of_size(M), r->core, M, r->queue, LIMIT).header;
     return w->load(r);
 }

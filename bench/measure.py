@@ -1,7 +1,7 @@
 # Measures what run.sh built: measure.py WORK
 # The driver is started several times, since pMARS' time depends on the addresses that a process gets; the least of each
-# figure is kept. Then instructions a step and for a match loaded by callgrind, the difference of two lengths; and the Rust, if
-# it was built, as a program: CPU time, the difference of two lengths, the least of five turns.
+# figure is kept. Then instructions a step, without limits and with them, and for a match loaded by callgrind, the difference of
+# two lengths; and the Rust, if it was built, as a program: CPU time, the difference of two lengths, the least of five turns.
 import os
 import resource
 import subprocess
@@ -11,6 +11,8 @@ BATTLES = ["imp", "dwarf", "splitter", "mixed", "imps of 2 names", "imps of 16 n
 # the ways of loading a match, by their names in the driver; the second is what the others are compared with
 WAYS = {"one-call": "one call", "known-loads": "sixteen loads", "read-loads": "sixteen loads, the file read"}
 WARRIORS = 16
+# read and write limits, by their names in the driver; the first are those of a machine without limits
+LEAGUES = ["8000/8000", "2000/2000", "4000/2000"]
 STARTS, TURNS = 12, 40
 work = sys.argv[1]
 
@@ -26,16 +28,17 @@ def least():
         for line in text(TURNS).splitlines():
             kind, name, number, *figures = line.split()
             figures = [float(x) for x in figures]
-            before = found.get((kind, name, int(number)), figures)
-            found[kind, name, int(number)] = [min(x, y) for x, y in zip(before, figures)]
+            number = number if "/" in number else int(number)
+            before = found.get((kind, name, number), figures)
+            found[kind, name, number] = [min(x, y) for x, y in zip(before, figures)]
     return found
 
 
-def instructions(who, i, steps):
+def instructions(who, i, steps, league=LEAGUES[0]):
     """Instructions that one step takes, or one match."""
     total = []
     for n in [steps, 2 * steps]:
-        command = ["valgrind", "--tool=callgrind", f"--callgrind-out-file={work}/callgrind.out", f"{work}/driver", "count", who, str(i), str(n)]
+        command = ["valgrind", "--tool=callgrind", f"--callgrind-out-file={work}/callgrind.out", f"{work}/driver", "count", who, str(i), str(n), *league.split("/")]
         said = subprocess.run(command, check=True, capture_output=True, text=True).stderr
         total.append(int(said.split("Collected :")[1].split()[0]))
     return (total[1] - total[0]) / steps
@@ -81,6 +84,24 @@ def times(found):
     print(f"\nload, for an instruction: {found['load', 'instruction', 8000][0]:.1f} ns\n", flush=True)
 
 
+def ratios(figures):
+    """The rows of a table of limits: of each battle and league a run's figure and the plain C's, and the run's ratios to limits M and to the plain C."""
+    print("| battle | read limit | write limit | run | plain C | to limits M | to plain C |\n|---|---|---|---|---|---|---|")
+    for i, name in enumerate(BATTLES[:4]):
+        found = {league: figures(i, name, league) for league in LEAGUES}
+        for league, (run, c) in found.items():
+            both = " | ".join(f"{int(x):,}" for x in league.split("/"))
+            print(f"| {name} | {both} | {run:.1f} | {c:.1f} | {run / found[LEAGUES[0]][0]:.2f} | {run / c:.2f} |", flush=True)
+
+
+def limits(found):
+    """The tables of runs with limits: ns, and instructions a step."""
+    print("\nWith limits:\n")
+    ratios(lambda i, name, league: found["limits", name, league])
+    print("\nInstructions a step:\n")
+    ratios(lambda i, name, league: [instructions(who, i, 60_000, league) for who in ["run", "plain"]])
+
+
 def matches(found):
     """The table of the ways of loading a match; the fresh machine, without which none is loaded, is taken off."""
     time = {way: found["match", way, WARRIORS][0] - found["match", "fresh", WARRIORS][0] for way in WAYS}
@@ -101,6 +122,7 @@ for i, name in enumerate(BATTLES[:4]):
 print("\n| battle | outer step | plain C | a call that plays nothing |\n|---|---|---|---|")
 for i, name in enumerate(BATTLES):
     row(name, [instructions(who, i, 6_000) for who in ["step", "plain-step", "idle"]], 1)
+limits(found)
 matches(found)
 if os.path.exists(f"{work}/rust-quiet/oracle"):
     print("\n| battle | the Rust | without its trace |\n|---|---|---|")

@@ -7,8 +7,9 @@ typedef struct {
     uint32_t opcode, modifier, a_mode, b_mode, number[2];
 } cell;
 
+// an operand: where its change is made and what stood there, its read and its write pointer, and the register
 typedef struct {
-    uint32_t location, pointer, writes;
+    uint32_t location, read, write, writes;
     uint64_t old;
     cell reg;
 } operand;
@@ -37,34 +38,41 @@ static int same(cell x, cell y) {
            x.number[0] == y.number[0] && x.number[1] == y.number[1];
 }
 
-// 0 where a cell that it reads is unsound
-static int evaluate(uint64_t *core, uint32_t size, uint32_t pc, uint32_t mode, uint32_t number, operand *o) {
-    o->location = (pc + number) % size;
+static uint32_t fold(uint32_t pointer, uint32_t limit, uint32_t size) {
+    uint32_t rest = pointer % limit;
+    return rest > limit / 2 ? rest + size - limit : rest;
+}
+
+// 0 where a cell that it reads is unsound; then nothing is changed
+static int evaluate(uint64_t *core, const sumacadze_rules_t *rules, uint32_t pc, uint32_t mode, uint32_t number, operand *o) {
+    uint32_t size = rules->size, field = mode % 2;
+    uint32_t read = fold(number, rules->read, size), write = fold(number, rules->write, size), from = (pc + read) % size;
+    o->location = (pc + write) % size;
     o->old = core[o->location];
-    o->writes = 0;
-    if (!sound(o->old, size))
+    o->writes = mode >= 4;
+    if (!sound(core[from], size) || !sound(o->old, size))
         return 0;
     if (mode < 2) {
-        o->pointer = mode == 0 ? pc : o->location;
-        o->reg = unpack(core[o->pointer]);
+        o->read = mode == 0 ? pc : from;
+        o->write = mode == 0 ? pc : o->location;
+        o->reg = unpack(core[o->read]);
         return 1;
     }
     cell at = unpack(o->old);
-    uint32_t found = at.number[mode % 2];
-    uint32_t used = mode == 4 || mode == 5 ? (found + size - 1) % size : found;
-    o->pointer = (o->location + used) % size;
-    if (!sound(core[o->pointer], size))
-        return 0;
     if (mode == 4 || mode == 5) {
-        at.number[mode % 2] = used;
+        at.number[field] = (at.number[field] + size - 1) % size;
         core[o->location] = pack(at);
-        o->writes = 1;
     }
-    o->reg = unpack(core[o->pointer]);
+    o->read = (pc + fold(read + unpack(core[from]).number[field], rules->read, size)) % size;
+    o->write = (pc + fold(write + at.number[field], rules->write, size)) % size;
+    if (!sound(core[o->read], size) || !sound(core[o->write], size)) {
+        core[o->location] = o->old;
+        return 0;
+    }
+    o->reg = unpack(core[o->read]);
     if (mode == 6 || mode == 7) {
-        at.number[mode % 2] = (found + 1) % size;
+        at.number[field] = (at.number[field] + 1) % size;
         core[o->location] = pack(at);
-        o->writes = 1;
     }
     return 1;
 }
@@ -104,9 +112,9 @@ static sumacadze_report_t step(uint64_t *core, uint64_t *queue, uint32_t limit, 
     if (i.opcode > 16)
         return r.number = 10, r;
     operand a, b;
-    if (!evaluate(core, size, pc, i.a_mode, i.number[0], &a))
+    if (!evaluate(core, &h->rules, pc, i.a_mode, i.number[0], &a))
         return r.number = 9, r;
-    if (!evaluate(core, size, pc, i.b_mode, unpack(core[pc]).number[1], &b)) {
+    if (!evaluate(core, &h->rules, pc, i.b_mode, unpack(core[pc]).number[1], &b)) {
         core[a.location] = a.old;
         return r.number = 9, r;
     }
@@ -116,7 +124,7 @@ static sumacadze_report_t step(uint64_t *core, uint64_t *queue, uint32_t limit, 
     h->steps++;
     r.steps = 1;
     r.writes = a.writes + b.writes;
-    cell live = unpack(core[b.pointer]), target = live;
+    cell live = unpack(core[b.read]), target = unpack(core[b.write]);
     uint32_t next = (pc + 1) % size;
     int pairs = PAIRS[i.modifier], some_zero = 0, some_other = 0, some_left = 0, equal = 1, below = 1, stored = 0;
     for (int k = 0; k < pairs; k++) {
@@ -140,7 +148,7 @@ static sumacadze_report_t step(uint64_t *core, uint64_t *queue, uint32_t limit, 
         target.modifier = a.reg.modifier;
     }
     if (stored) {
-        core[b.pointer] = pack(target);
+        core[b.write] = pack(target);
         r.writes++;
     }
     switch (i.opcode) {
@@ -156,10 +164,10 @@ static sumacadze_report_t step(uint64_t *core, uint64_t *queue, uint32_t limit, 
             return r;
         }
         break;
-    case 7: next = a.pointer; break;
-    case 8: if (some_zero) next = a.pointer; break;
-    case 9: if (some_other) next = a.pointer; break;
-    case 10: if (some_left) next = a.pointer; break;
+    case 7: next = a.read; break;
+    case 8: if (some_zero) next = a.read; break;
+    case 9: if (some_other) next = a.read; break;
+    case 10: if (some_left) next = a.read; break;
     case 11:
     case 12:
     case 13:
@@ -170,7 +178,7 @@ static sumacadze_report_t step(uint64_t *core, uint64_t *queue, uint32_t limit, 
     }
     push(queue, limit, h, next, thread, name);
     if (i.opcode == 15 && h->ring.length < limit)
-        push(queue, limit, h, a.pointer, h->threads[name]++, name);
+        push(queue, limit, h, a.read, h->threads[name]++, name);
     return r;
 }
 
@@ -192,9 +200,11 @@ static int sound_names(const sumacadze_header_t *h) {
     return sum == h->ring.length;
 }
 
+static int divides(uint32_t limit, uint32_t size) { return limit && size % limit == 0; }
+
 static int sound_header(size_t m, size_t limit, const sumacadze_header_t *h) {
     return h->rules.size >= 1 && h->rules.size <= 46341 && h->rules.size == m && limit >= 1 && limit <= 65535 &&
-           h->ring.length <= limit && h->ring.head < limit && h->names.held <= 16 && sound_names(h);
+           divides(h->rules.read, h->rules.size) && divides(h->rules.write, h->rules.size) && h->ring.length <= limit && h->ring.head < limit && h->names.held <= 16 && sound_names(h);
 }
 
 sumacadze_report_t plain_step(uint64_t *core, size_t m, uint64_t *queue, size_t limit, sumacadze_header_t *h) {
@@ -218,11 +228,11 @@ sumacadze_report_t plain_run(uint64_t *core, size_t m, uint64_t *queue, size_t l
     return all;
 }
 
-sumacadze_header_t plain_fresh(uint32_t size, uint64_t *core, uint64_t *queue, uint32_t limit) {
+sumacadze_header_t plain_fresh(sumacadze_rules_t rules, uint64_t *core, uint64_t *queue, uint32_t limit) {
     sumacadze_header_t h;
     memset(&h, 0, sizeof h);
-    h.rules.size = size;
-    for (uint32_t i = 0; i < size; i++)
+    h.rules = rules;
+    for (uint32_t i = 0; i < rules.size; i++)
         core[i] = (uint64_t)4 << 38 | (uint64_t)1 << 35 | (uint64_t)1 << 32;
     memset(queue, 0, limit * sizeof *queue);
     return h;

@@ -4,13 +4,18 @@
 #include <stdlib.h>
 #include <string.h>
 
+// the numbers that a call may give, 0 among them
+enum { ANSWERS = 15 };
+
 static record ours, plain;
 static start begun;
+
+static sumacadze_rules_t rules_of(const start *s) { return (sumacadze_rules_t){s->size, s->read, s->write}; }
 
 void library_record(record *r, const start *s) {
     char name[NAME];
     r->size = s->size, r->limit = s->limit;
-    r->header = sumacadze_fresh((sumacadze_rules_t){s->size}, r->core, s->size, r->queue, s->limit).header;
+    r->header = sumacadze_fresh(rules_of(s), r->core, s->size, r->queue, s->limit).header;
     for (uint32_t k = 0; k < s->names; k++) {
         name_of(k, name);
         sumacadze_load(r->core, s->size, r->queue, s->limit, &r->header, (const uint8_t *)name, strlen(name), s->body,
@@ -28,7 +33,7 @@ static uint64_t packed(const uint8_t *p, uint32_t size) {
 void plain_record(record *r, const start *s) {
     char name[NAME];
     r->size = s->size, r->limit = s->limit;
-    r->header = plain_fresh(s->size, r->core, r->queue, s->limit);
+    r->header = plain_fresh(rules_of(s), r->core, r->queue, s->limit);
     for (uint32_t i = 0; i < s->length; i++)
         r->core[i] = packed(s->body + 12 * i, s->size);
     for (uint32_t k = 0; k < s->names; k++) {
@@ -66,9 +71,18 @@ static void copy(record *to, const record *from) {
     memcpy(to->queue, from->queue, 8 * from->limit);
 }
 
-// a small core with a random body, and one to three names
+// M, or in half of the cases any of its divisors
+static uint32_t random_limit(uint32_t size) {
+    uint32_t limit = rand() % 2 ? size : 1 + rand() % size;
+    while (size % limit)
+        limit--;
+    return limit;
+}
+
+// a small core with limits and a random body, and one to three names
 static void random_start(start *s) {
     s->size = 1 + rand() % 20, s->limit = 1 + rand() % 6, s->length = 1 + rand() % s->size;
+    s->read = random_limit(s->size), s->write = random_limit(s->size);
     s->names = 1 + rand() % (s->limit < 3 ? s->limit : 3), s->apart = rand() % s->size;
     for (uint32_t k = 0; k < s->length; k++) {
         line l = {0, rand() % (rand() % 8 ? 17 : 19), rand() % 7, rand() % 8, rand() % 8, rand() % 60 - 30, rand() % 60 - 30};
@@ -78,10 +92,10 @@ static void random_start(start *s) {
 
 static uint64_t bit(void) { return (uint64_t)1 << rand() % 64; }
 
-// one bit of a cell or an entry, a count, a counter near its end, or a byte of the header
+// one bit of a cell or an entry, a count, a counter near its end, a limit, or a byte of the header
 static void damage(record *r) {
     sumacadze_header_t *h = &r->header;
-    switch (rand() % 8) {
+    switch (rand() % 9) {
     case 0:
     case 1: r->core[rand() % r->size] ^= bit(); break;
     case 2:
@@ -89,6 +103,7 @@ static void damage(record *r) {
     case 4: h->counts[0]--, h->counts[1]++; break;
     case 5: h->steps = UINT32_MAX - rand() % 30; break;
     case 6: h->threads[rand() % 2] = UINT32_MAX - rand() % 4; break;
+    case 7: *(rand() % 2 ? &h->rules.read : &h->rules.write) = rand() % (2 * r->size + 1); break;
     default: ((uint8_t *)h)[rand() % sizeof *h] ^= 1 << rand() % 8; break;
     }
 }
@@ -105,7 +120,7 @@ static void random_records(void) {
 }
 
 int agree(int seed, int count) {
-    static uint64_t answers[14], steps;
+    static uint64_t answers[ANSWERS], steps;
     srand(seed);
     for (int i = 0; i < count; i++) {
         random_records();
@@ -120,7 +135,7 @@ int agree(int seed, int count) {
         answers[x.number]++, steps += x.steps;
     }
     printf("%d random records, %llu steps: the same. Answers:", count, (unsigned long long)steps);
-    for (int k = 0; k < 14; k++)
+    for (int k = 0; k < ANSWERS; k++)
         if (answers[k])
             printf(" %d: %llu", k, (unsigned long long)answers[k]);
     printf("\n");

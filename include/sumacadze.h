@@ -37,14 +37,16 @@ enum {
     SUMACADZE_PRIVATE_MEMORY = 10,
     SUMACADZE_EXECUTE_DAT = 11, /* the place of the DAT */
     SUMACADZE_DIVIDE_BY_ZERO = 12,
-    SUMACADZE_MALFORMED = 13 /* the position of the fault in the file */
+    SUMACADZE_MALFORMED = 13, /* the position of the fault in the file */
+    SUMACADZE_INVALID_LIMIT = 14
 };
 
 enum { SUMACADZE_NAMES = 16, SUMACADZE_NAME_BYTES = 32, SUMACADZE_NO_ORIGIN = 65535 };
 
-/* What a fresh machine is given and no call changes: the core's size. */
+/* What a fresh machine is given and no call changes: the core's size, and how far a process reads and writes from its own
+ * place. Each limit divides the size; a machine without limits has the size for both (sumacadze_rules_of_size). */
 typedef struct {
-    uint32_t size;
+    uint32_t size, read, write;
 } sumacadze_rules_t;
 
 /* Where the ring of queued processes begins, and how many entries it has. */
@@ -105,6 +107,12 @@ typedef struct {
     uint32_t place;
 } sumacadze_line_t;
 
+/* The rules of a core of that size, without limits. */
+static inline sumacadze_rules_t sumacadze_rules_of_size(uint32_t size) {
+    sumacadze_rules_t rules = {size, size, size};
+    return rules;
+}
+
 /* A fresh machine of these rules: fresh cells in the core memory, zeros in the queue memory, and its header. */
 sumacadze_fresh_t sumacadze_fresh(sumacadze_rules_t rules, uint64_t *core, size_t core_length, uint64_t *queue,
                                   size_t queue_length);
@@ -145,13 +153,14 @@ sumacadze_line_t sumacadze_read_line(const uint8_t *file, size_t file_length, si
 #endif
 
 /* The layout that the library has. */
-SUMACADZE_ASSERT(sizeof(sumacadze_header_t) == 676 && offsetof(sumacadze_header_t, ring) == 4);
-SUMACADZE_ASSERT(offsetof(sumacadze_header_t, steps) == 12 && offsetof(sumacadze_header_t, names) == 16);
+SUMACADZE_ASSERT(sizeof(sumacadze_rules_t) == 12 && offsetof(sumacadze_rules_t, read) == 4);
+SUMACADZE_ASSERT(sizeof(sumacadze_header_t) == 684 && offsetof(sumacadze_header_t, ring) == 12);
+SUMACADZE_ASSERT(offsetof(sumacadze_header_t, steps) == 20 && offsetof(sumacadze_header_t, names) == 24);
 SUMACADZE_ASSERT(offsetof(sumacadze_roster_t, bytes) == 4 && offsetof(sumacadze_roster_t, lengths) == 516);
-SUMACADZE_ASSERT(offsetof(sumacadze_header_t, counts) == 548 && offsetof(sumacadze_header_t, threads) == 612);
-SUMACADZE_ASSERT(sizeof(sumacadze_rules_t) == 4 && sizeof(sumacadze_fresh_t) == 680);
+SUMACADZE_ASSERT(offsetof(sumacadze_header_t, counts) == 556 && offsetof(sumacadze_header_t, threads) == 620);
+SUMACADZE_ASSERT(sizeof(sumacadze_fresh_t) == 688 && offsetof(sumacadze_fresh_t, header) == 4);
 SUMACADZE_ASSERT(sizeof(sumacadze_report_t) == 32 && sizeof(sumacadze_reading_t) == 16);
-SUMACADZE_ASSERT(sizeof(sumacadze_loads_t) == 720 && offsetof(sumacadze_loads_t, warrior) == 32);
+SUMACADZE_ASSERT(sizeof(sumacadze_loads_t) == 728 && offsetof(sumacadze_loads_t, warrior) == 32);
 SUMACADZE_ASSERT(offsetof(sumacadze_loads_t, header) == 40);
 SUMACADZE_ASSERT(sizeof(sumacadze_contents_t) == 32 && sizeof(sumacadze_line_t) == 56);
 SUMACADZE_ASSERT(sizeof(bool) == 1 && sizeof(size_t) == 8);

@@ -42,7 +42,7 @@ int main(int words, char **word) {
     uint32_t size = contents.size;
     if (size > LARGEST_SIZE)
         return refused(SUMACADZE_INVALID_CORE_SIZE, 0);
-    sumacadze_fresh_t machine = sumacadze_fresh((sumacadze_rules_t){.size = size}, core, size, queue, QUEUE);
+    sumacadze_fresh_t machine = sumacadze_fresh(sumacadze_rules_of_size(size), core, size, queue, QUEUE);
     if (machine.number)
         return refused(machine.number, 0);
     sumacadze_loads_t loads = sumacadze_load_match(core, size, queue, QUEUE, machine.header, file, length);

@@ -20,6 +20,7 @@ pub enum Answer {
     DivideByZero,
     /// The position of the fault in the file.
     Malformed(usize),
+    InvalidLimit,
 }
 
 impl Answer {
@@ -40,6 +41,7 @@ impl Answer {
             11 => Answer::ExecuteDat(value),
             12 => Answer::DivideByZero,
             13 => Answer::Malformed(value),
+            14 => Answer::InvalidLimit,
             _ => panic!("the library that is linked gave the number {number}"),
         }
     }
@@ -61,6 +63,7 @@ impl Answer {
             Answer::ExecuteDat(_) => 11,
             Answer::DivideByZero => 12,
             Answer::Malformed(_) => 13,
+            Answer::InvalidLimit => 14,
         }
     }
 

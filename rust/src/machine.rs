@@ -5,11 +5,25 @@ use std::fmt;
 /// The origin of a warrior that has none, meaning 0.
 pub const NO_ORIGIN: u16 = 65535;
 
-/// What a fresh machine is given and no call changes: the core's size.
+/// What a fresh machine is given and no call changes: the core's size, and how far a process reads and writes from its own
+/// place. Each limit divides the size; a machine without limits has the size for both ([`Rules::of_size`]).
 #[repr(C)]
 #[derive(Clone, Copy, Debug, PartialEq, Eq)]
 pub struct Rules {
     pub size: u32,
+    pub read: u32,
+    pub write: u32,
+}
+
+impl Rules {
+    /// The rules of a core of that size, without limits.
+    pub fn of_size(size: u32) -> Rules {
+        Rules {
+            size,
+            read: size,
+            write: size,
+        }
+    }
 }
 
 /// Where the ring of queued processes begins, and how many entries it has.

@@ -56,28 +56,73 @@ fn record(m: &Machine) -> (Header, Vec<u64>, Vec<u64>) {
 fn fresh_refuses_in_order_and_changes_nothing() {
     let (mut core, mut queue) = memories();
     assert_eq!(
-        Machine::fresh(Rules { size: 0 }, &mut core, &mut queue).err(),
+        Machine::fresh(Rules::of_size(0), &mut core, &mut queue).err(),
         Some(Answer::InvalidCoreSize)
     );
     assert_eq!(
-        Machine::fresh(Rules { size: 46342 }, &mut core, &mut queue).err(),
+        Machine::fresh(Rules::of_size(46342), &mut core, &mut queue).err(),
         Some(Answer::InvalidCoreSize)
     );
     assert_eq!(
-        Machine::fresh(Rules { size: 9 }, &mut core, &mut queue).err(),
+        Machine::fresh(Rules::of_size(9), &mut core, &mut queue).err(),
         Some(Answer::InvalidMemory)
     );
     assert_eq!(
-        Machine::fresh(Rules { size: 8 }, &mut core, &mut []).err(),
+        Machine::fresh(Rules::of_size(8), &mut core, &mut []).err(),
         Some(Answer::InvalidMemory)
     );
+    for (read, write) in [(0, 8), (8, 0), (3, 8), (8, 16), (u32::MAX, 8)] {
+        let rules = |size| Rules { size, read, write };
+        let refused = |size, core: &mut [u64], queue: &mut [u64]| {
+            Machine::fresh(rules(size), core, queue).err()
+        };
+        assert_eq!(
+            refused(0, &mut core, &mut queue),
+            Some(Answer::InvalidCoreSize)
+        );
+        assert_eq!(refused(8, &mut core, &mut []), Some(Answer::InvalidMemory));
+        assert_eq!(
+            refused(8, &mut core, &mut queue),
+            Some(Answer::InvalidLimit)
+        );
+    }
     assert_eq!((core, queue), memories());
+}
+
+#[test]
+fn limits_fold_what_is_read_and_written() {
+    let (mut core, mut queue) = memories();
+    let rules = Rules {
+        size: 8,
+        read: 4,
+        write: 2,
+    };
+    let mut m = Machine::fresh(rules, &mut core, &mut queue).unwrap();
+    assert_eq!(m.header().rules, rules);
+    // JMP.B <3, $6 at 4: the decrement is at 5, the read chain goes by the cell at 3
+    let jump = [7, 1, 5, 1, 3, 0, 0, 0, 6, 0, 0, 0];
+    m.load(b"A", &jump, 0, 4);
+    m.load(b"B", &IMP, 0, 0);
+    let first = m.step();
+    assert_eq!(
+        (first.answer, first.writes, first.steps),
+        (Answer::Done, 1, 1)
+    );
+    assert_eq!(m.get(5).unwrap().b, 7);
+    assert_eq!(m.queue()[2] & 0xffff, 3);
+    let mut header = *m.header();
+    header.rules.write = 3;
+    let before = record(&m);
+    let (mut core, mut queue) = (before.1.clone(), before.2.clone());
+    let mut m = Machine::from_parts(&mut core, &mut queue, header);
+    assert_eq!(m.step().answer, Answer::UnsoundRecord);
+    assert_eq!(record(&m), (header, before.1, before.2));
 }
 
 #[test]
 fn an_imp_runs_and_a_dat_ends() {
     let (mut core, mut queue) = memories();
-    let mut m = Machine::fresh(Rules { size: 8 }, &mut core, &mut queue).unwrap();
+    let mut m = Machine::fresh(Rules::of_size(8), &mut core, &mut queue).unwrap();
     assert_eq!(m.load(b"Imp", &IMP, NO_ORIGIN, 6).answer, Answer::Done);
     assert_eq!(m.load(b"", &DAT, 0, 3).answer, Answer::Done);
     let first = m.step();
@@ -102,7 +147,7 @@ fn an_imp_runs_and_a_dat_ends() {
 #[test]
 fn loads_are_refused_by_their_numbers() {
     let (mut core, mut queue) = memories();
-    let mut m = Machine::fresh(Rules { size: 8 }, &mut core, &mut queue).unwrap();
+    let mut m = Machine::fresh(Rules::of_size(8), &mut core, &mut queue).unwrap();
     let before = (*m.header(), m.core().to_vec(), m.queue().to_vec());
     assert_eq!(
         m.load(b"x", &[0; 12 * 9], 0, 0).answer,
@@ -141,12 +186,12 @@ fn a_match_is_loaded_in_one_call() {
         ],
     );
     let (mut core, mut queue) = memories();
-    let mut m = Machine::fresh(Rules { size: 8 }, &mut core, &mut queue).unwrap();
+    let mut m = Machine::fresh(Rules::of_size(8), &mut core, &mut queue).unwrap();
     assert_eq!(m.load_match(&file), loads(Answer::Done, 3, 0));
     let names: Vec<_> = m.names().collect();
     assert_eq!(names, [(&b"Imp"[..], 2), (&b"Warrior0"[..], 1)]);
     let (mut core, mut queue) = memories();
-    let mut single = Machine::fresh(Rules { size: 8 }, &mut core, &mut queue).unwrap();
+    let mut single = Machine::fresh(Rules::of_size(8), &mut core, &mut queue).unwrap();
     single.load(b"Imp", &pair, 1, 7);
     single.load(b"", &DAT, NO_ORIGIN, 3);
     single.load(b"Imp", &[], 0, 2);
@@ -170,10 +215,10 @@ fn a_refused_warrior_leaves_those_before_it() {
         ],
     );
     let (mut core, mut queue) = memories();
-    let mut m = Machine::fresh(Rules { size: 8 }, &mut core, &mut queue).unwrap();
+    let mut m = Machine::fresh(Rules::of_size(8), &mut core, &mut queue).unwrap();
     assert_eq!(m.load_match(&file), loads(Answer::InvalidCode(2), 2, 2));
     let (mut core, mut queue) = memories();
-    let mut single = Machine::fresh(Rules { size: 8 }, &mut core, &mut queue).unwrap();
+    let mut single = Machine::fresh(Rules::of_size(8), &mut core, &mut queue).unwrap();
     single.load(b"A", &IMP, 0, 0);
     single.load(b"B", &DAT, 0, 4);
     assert_eq!(record(&m), record(&single));
@@ -196,7 +241,7 @@ fn a_match_refused_before_its_loads_changes_nothing() {
     let file = match_file(8, &[(b"A", &IMP, 0, 0), (b"B", &DAT, 0, 4)]);
     let other = match_file(7, &[(b"A", &IMP, 0, 0), (b"B", &DAT, 0, 4)]);
     let (mut core, mut queue) = memories();
-    let mut m = Machine::fresh(Rules { size: 8 }, &mut core, &mut queue).unwrap();
+    let mut m = Machine::fresh(Rules::of_size(8), &mut core, &mut queue).unwrap();
     m.load(b"Imp", &IMP, 0, 3);
     let before = record(&m);
     let cut = file.len() - 1;
@@ -225,7 +270,7 @@ fn a_match_refused_before_its_loads_changes_nothing() {
 #[test]
 fn any_header_is_taken_and_an_unsound_one_is_refused() {
     let header = Header {
-        rules: Rules { size: 8 },
+        rules: Rules::of_size(8),
         ring: Ring {
             head: u32::MAX,
             length: u32::MAX,
@@ -254,7 +299,7 @@ fn any_header_is_taken_and_an_unsound_one_is_refused() {
 fn memory_that_comes_as_pointers_is_tested() {
     let mut words = vec![0u64; 12];
     let (mut core, mut queue) = memories();
-    let header = *Machine::fresh(Rules { size: 8 }, &mut core, &mut queue)
+    let header = *Machine::fresh(Rules::of_size(8), &mut core, &mut queue)
         .unwrap()
         .header();
     let at = words.as_mut_ptr();

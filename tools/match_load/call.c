@@ -2,60 +2,14 @@
 // A case is the lengths of core, queue and file, of 64 bits each; the header; and the core, the queue and the file.
 // A result is the number, value, warrior, writes and steps, of 64 bits each; the header, the core and the queue left; and
 // one byte, 1 where the loads made one by one on a copy of the record gave and left the same, else 0.
-#include "sumacadze.h"
-#include <stdio.h>
-#include <stdlib.h>
+#include "record.h"
 #include <string.h>
-
-// A machine: its memories, of exactly their lengths, and its header.
-typedef struct {
-    size_t core_length, queue_length;
-    uint64_t *core, *queue;
-    sumacadze_header_t header;
-} record;
-
-// Memory of so many bytes; of none, too, it is not null.
-static void *room(size_t bytes) {
-    void *memory = malloc(bytes ? bytes : 1);
-    if (!memory) {
-        fputs("no memory\n", stderr);
-        exit(1);
-    }
-    return memory;
-}
-
-static void take(void *to, size_t bytes) {
-    if (fread(to, 1, bytes, stdin) != bytes) {
-        fputs("a case is cut short\n", stderr);
-        exit(1);
-    }
-}
-
-static void give(const void *from, size_t bytes) {
-    if (fwrite(from, 1, bytes, stdout) != bytes) {
-        perror("result");
-        exit(1);
-    }
-}
-
-static void give_number(uint64_t number) { give(&number, sizeof number); }
-
-static void make(record *r, size_t core_length, size_t queue_length) {
-    r->core_length = core_length, r->queue_length = queue_length;
-    r->core = room(core_length * sizeof *r->core);
-    r->queue = room(queue_length * sizeof *r->queue);
-}
 
 static void copy(record *to, const record *from) {
     make(to, from->core_length, from->queue_length);
     memcpy(to->core, from->core, from->core_length * sizeof *from->core);
     memcpy(to->queue, from->queue, from->queue_length * sizeof *from->queue);
     to->header = from->header;
-}
-
-static void drop(record *r) {
-    free(r->core);
-    free(r->queue);
 }
 
 static bool same_records(const record *x, const record *y) {
@@ -114,19 +68,14 @@ static void tell(const sumacadze_loads_t *loads, const record *r, bool same) {
     give_number(loads->warrior);
     give_number(loads->report.writes);
     give_number(loads->report.steps);
-    give(&r->header, sizeof r->header);
-    give(r->core, r->core_length * sizeof *r->core);
-    give(r->queue, r->queue_length * sizeof *r->queue);
+    give_record(r);
     give(&same, sizeof same);
 }
 
 static void play_case(const uint64_t lengths[3]) {
     record r, single;
-    make(&r, lengths[0], lengths[1]);
     uint8_t *file = room(lengths[2]);
-    take(&r.header, sizeof r.header);
-    take(r.core, r.core_length * sizeof *r.core);
-    take(r.queue, r.queue_length * sizeof *r.queue);
+    take_record(&r, lengths[0], lengths[1]);
     take(file, lengths[2]);
     copy(&single, &r);
     sumacadze_loads_t loads = in_one_call(&r, file, lengths[2]);

@@ -24,7 +24,7 @@ def made(size, warriors):
 
 def fresh_record(size, limit):
     record = Record([FRESH_CELL] * size, [0] * limit)
-    record.size = size
+    record.size = record.read = record.write = size
     return record
 
 
@@ -174,10 +174,19 @@ def damage_counts(dice, record):
         record.counts[other] += half
 
 
+def damage_limit(dice, record):
+    """A limit that does not divide M, or another that does."""
+    limit = dice.choice([0, 1, 2, 3, record.size - 1, record.size, record.size + 1, 2 * record.size, LAST_NUMBER]) % 2**32
+    if dice.random() < 0.5:
+        record.read = limit
+    else:
+        record.write = limit
+
+
 def damaged(dice, record):
     """The record with one field of its header, one bit of it or a memory's length changed; some of these are sound."""
     limit = len(record.queue)
-    kind = dice.randrange(10)
+    kind = dice.randrange(11)
     if kind == 0:
         record.size = dice.choice([0, record.size - 1, record.size + 1, LARGEST_SIZE, LARGEST_SIZE + 1, LAST_NUMBER])
     elif kind == 1:
@@ -204,6 +213,8 @@ def damaged(dice, record):
     elif kind == 9:
         record.core = dice.choice([record.core, record.core[1:], record.core + [FRESH_CELL]])
         record.queue = dice.choice([record.queue, record.queue[1:], [], record.queue + [0]])
+    elif kind == 10:
+        damage_limit(dice, record)
     return record
 
 

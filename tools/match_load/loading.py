@@ -1,6 +1,6 @@
 """A match loaded in one call, on a whole record: written from the papers, apart from the definitions and the code.
 
-Document 01 has the sound header, the load of a warrior and the match file; request A.1 of document 02 has the call.
+Document 01 has the sound header, the load of a warrior and the match file; request A.1 of document 02 has the call, A.2 the limits.
 """
 import struct
 
@@ -10,7 +10,7 @@ NAMES, NAME_BYTES = 16, 32
 LARGEST_SIZE, LONGEST_QUEUE = 46341, 65535
 LAST_NUMBER = 4294967295
 NO_ORIGIN = 65535
-HEADER = struct.Struct(f"<5I{NAMES * NAME_BYTES}s{NAMES}s{NAMES}I{NAMES}I")
+HEADER = struct.Struct(f"<7I{NAMES * NAME_BYTES}s{NAMES}s{NAMES}I{NAMES}I")
 
 
 def word(opcode, modifier, a_mode, b_mode, a, b):
@@ -22,6 +22,10 @@ def entry(place, thread, name):
 
 
 FRESH_CELL = word(0, 4, 1, 1, 0, 0)
+
+
+def divides(limit, size):
+    return limit > 0 and size % limit == 0
 
 
 def cell(instruction, size):
@@ -41,12 +45,15 @@ class Record:
 
     def __init__(self, core, queue, header=bytes(HEADER.size)):
         self.core, self.queue = core, queue
-        self.size, self.head, self.length, self.steps, self.held, names, lengths, *numbers = HEADER.unpack(header)
+        *first, names, lengths = HEADER.unpack(header)[:-2 * NAMES]
+        self.size, self.read, self.write, self.head, self.length, self.steps, self.held = first
         self.bytes, self.lengths = bytearray(names), bytearray(lengths)
+        numbers = list(HEADER.unpack(header)[-2 * NAMES:])
         self.counts, self.threads = numbers[:NAMES], numbers[NAMES:]
 
     def header(self):
-        return HEADER.pack(self.size, self.head, self.length, self.steps, self.held, bytes(self.bytes), bytes(self.lengths), *self.counts, *self.threads)
+        first = self.size, self.read, self.write, self.head, self.length, self.steps, self.held
+        return HEADER.pack(*first, bytes(self.bytes), bytes(self.lengths), *self.counts, *self.threads)
 
     def memories(self):
         return struct.pack(f"<{len(self.core) + len(self.queue)}Q", *self.core, *self.queue)
@@ -61,6 +68,8 @@ class Record:
 
     def sound(self):
         if not 1 <= self.size <= LARGEST_SIZE or self.size != len(self.core) or not 1 <= len(self.queue) <= LONGEST_QUEUE:
+            return False
+        if not divides(self.read, self.size) or not divides(self.write, self.size):
             return False
         if self.length > len(self.queue) or self.head >= len(self.queue) or self.held > NAMES:
             return False

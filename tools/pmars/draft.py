@@ -1,4 +1,4 @@
-# The draft's step, line by line as crates/draft/specs has it in Evaluation.antt and Draft.antt, and where a departure applies (Departures.antt).
+# The step of the draft's sample interpreter, with its read and write limits (both M where none are said), and where a departure applies.
 # A cell is [opcode, modifier, A mode, B mode, A number, B number], by 01's codes; the model changes the core that it is given.
 DAT, MOV, ADD, SUB, MUL, DIV, MOD, JMP, JMZ, JMN, DJN, CMP, SEQ, SNE, SLT, SPL, NOP = range(17)
 A, B, AB, BA, F, X, I = range(7)
@@ -38,6 +38,7 @@ def instruction(cell):
 
 
 def operands(core, pc, read, write):
+    """IR, the places PC + RPA and PC + WPB, IRA and IRB"""
     ir = list(core[pc])
     rpa, _, ira = evaluate(core, pc, ir[AMODE], ir[ANUMBER], read, write)
     _, wpb, irb = evaluate(core, pc, ir[BMODE], ir[BNUMBER], read, write)
@@ -83,25 +84,24 @@ def step(core, pc, read=None, write=None):
     return on + [jump] if op == SPL else on
 
 
-def departures(core, pc):
-    """Of 01's list, 1 to 6, those that apply. Where 1 does not, the draft's operands are the machine's."""
+def departures(core, pc, read=None, write=None):
+    """Of 01's list, 1 to 6, those that apply, with 02's words for limits. The operands are this machine's: B's number is read again."""
     core = [list(c) for c in core]
     size = len(core)
-    op, k, am, bm, a, b = core[pc]
-    if am in (5, 7) and a == 0:
-        return [1]
-    _, _, target, ira, _ = operands(core, pc, size, size)
-    live = core[target]
+    read, write = read or size, write or size
+    op, k, am, bm, a, _ = core[pc]
+    _, _, ira = evaluate(core, pc, am, a, read, write)
+    b = core[pc][BNUMBER]
+    rpb, wpb, _ = evaluate(core, pc, bm, b, read, write)
+    live, target = core[(pc + rpb) % size], core[(pc + wpb) % size]
     whole = op in (CMP, SEQ, SNE) and k == I
-    found = []
-    if op == MOV and k == I and ira[AMODE:BMODE + 1] != live[AMODE:BMODE + 1]:
-        found.append(2)
-    if (whole or op == DJN) and bm in (6, 7) and (pc + b) % size == target:
-        found.append(3)
-    if op in (DIV, MOD):
-        found.append(4)
-    if op == JMZ and k in (F, X, I):
-        found.append(5)
-    if whole and sorted((ira[OP], live[OP])) == [CMP, SEQ]:
-        found.append(6)
-    return found
+    hits = bm in (6, 7) and fold(b, write, size) == rpb
+    applies = [
+        am in (5, 7) and fold(a, write, size) == 0,
+        op == MOV and k == I and ira[AMODE:BMODE + 1] != target[AMODE:BMODE + 1],
+        whole and hits or op == DJN and (hits or rpb != wpb),
+        op in (DIV, MOD),
+        op == JMZ and k in (F, X, I),
+        whole and sorted((ira[OP], live[OP])) == [CMP, SEQ],
+    ]
+    return [number for number, yes in enumerate(applies, 1) if yes]

@@ -20,7 +20,7 @@ fn play(file: &[u8]) -> Result<Vec<u8>, Answer> {
     }
     let mut core = vec![0; game.size as usize];
     let mut queue = vec![0; QUEUE];
-    let mut machine = Machine::fresh(Rules { size: game.size }, &mut core, &mut queue)?;
+    let mut machine = Machine::fresh(Rules::of_size(game.size), &mut core, &mut queue)?;
     machine.load_match(file).report.answer.ok()?;
     let run = machine.run(None);
     let mut text = format!("{} {} {}\n", run.answer.number(), run.steps, run.writes).into_bytes();
