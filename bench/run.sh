@@ -9,7 +9,7 @@ work=$(cd "$1" && pwd)
 sources=${2:+$(cd "$2" && pwd)}
 
 cd "$here/.."
-rt staticlib sumacadze
+bin/library
 
 # pMARS' loop, as in its build for tournaments, and our glue
 sh tools/pmars/build.sh "$work/pmars"

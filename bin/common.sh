@@ -1,7 +1,7 @@
 # What bin/make-match and bin/play share; each sets `program` and `usage` first.
 tool=$(basename -- "$0")
 root=$(dirname -- "$(dirname -- "$(readlink -f -- "$0")")")
-built=$root/target/bin/$program
+built=$root/crates/$program/out/$program
 
 # Says what is wrong.
 say() {
@@ -19,17 +19,18 @@ show_proved() {
     while IFS= read -r line; do
         printf '%s\n' "$line" >>"$1"
         case $line in
-        'rt: '*' proved (unchanged'*) ;;
-        'rt: '*' proved ('*)
+        'rt: chose --jobs '*' for '*)
             [ -n "$begun" ] || say "proving and building $program, which takes a few minutes"
-            begun=yes
-            say "${line#rt: }"
+            begun=${line##* for }
+            ;;
+        'logic=proved '*)
+            [ -z "$begun" ] || say "$begun proved"
             ;;
         esac
     done
 }
 
-# Proves and builds the program where it is not that of its sources; one use at a time.
+# Proves and builds the program where it is not that of its sources, by a run on no input; one use at a time.
 build() {
     for needed in rt flock; do
         command -v $needed >/dev/null || give_up "$program cannot be built or held to its sources: $needed is not on PATH"
@@ -44,11 +45,11 @@ build() {
     fi
     log=$root/target/$program.log begun=''
     : >"$log"
-    if ! { (cd -- "$root" && rt check "$program" 2>&1 </dev/null 9<&- || echo "rt check failed") | show_proved "$log"; } || tail -n 1 -- "$log" | grep -q '^rt check failed$'; then
+    if ! { (cd -- "$root/crates/$program" && rt run 2>&1 </dev/null 9<&- || echo "rt run failed") | show_proved "$log"; } || tail -n 1 -- "$log" | grep -q '^rt run failed$'; then
         cat -- "$log" >&2
-        give_up "rt check $program failed, so there is no program to run"
+        give_up "rt run failed in crates/$program, so there is no program to run"
     fi
-    [ -x "$built" ] || give_up "rt check $program made no program anew: remove $root/target and try again"
+    [ -x "$built" ] || give_up "rt run made no program in crates/$program: remove $root/crates/$program/out and try again"
     exec 9<&-
 }
 

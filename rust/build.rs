@@ -13,7 +13,7 @@ fn main() {
     println!("cargo:rerun-if-changed={}", archive.display());
     if !archive.exists() {
         println!(
-            "cargo:warning={} is not there: `rt staticlib sumacadze` makes it",
+            "cargo:warning={} is not there: `bin/library` makes it",
             archive.display()
         );
     }

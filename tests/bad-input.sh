@@ -65,7 +65,7 @@ makes_or_complains() {
         [ "$status" -eq "$complaint" ] && [ "$err" -eq 1 ] && [ ! -s "$work/out" ] && verdict=yes
     elif [ "$status" -eq 0 ]; then
         cp "$work/out" "$work/made"
-        run "$work/made" "$built/play"
+        run "$work/made" "$root/crates/play/out/play"
         [ "$status" -eq 0 ] && [ "$out" -ge 2 ] && [ "$err" -eq 0 ] && verdict=yes
     fi
     count "$verdict" "$*"
@@ -84,7 +84,6 @@ fails() {
 
 play=$root/bin/play
 make=$root/bin/make-match
-built=$root/target/bin
 none=/dev/null
 
 # Both programs are built before anything is timed.
@@ -189,7 +188,7 @@ for example in "$root"/examples/*.match; do
     at=0
     while [ "$at" -lt "$size" ]; do
         head -c "$at" "$example" >cut
-        answers "13 $at" cut "$built/play"
+        answers "13 $at" cut "$root/crates/play/out/play"
         at=$((at + 7))
     done
 done
@@ -198,7 +197,7 @@ for example in "$root"/examples/*.txt; do
     at=0
     while [ "$at" -lt "$size" ]; do
         head -c "$at" "$example" >cut
-        makes_or_complains 0 cut "$built/make_match"
+        makes_or_complains 0 cut "$root/crates/make_match/out/make_match"
         at=$((at + 7))
     done
 done

@@ -14,7 +14,7 @@ import re
 import sys
 
 ROOT = pathlib.Path(__file__).resolve().parent.parent
-MODULE = re.compile(r"Rattle·(\w+?)(?:·specs\.specs|\.specs)\.([\w.-]+)")
+MODULE = re.compile(r"Rattle\.(\w+)\.specs\.([\w.-]+)")
 PUBLIC = re.compile(r"^pub (?:extern \"C\" )?fn .*?^\{", re.M | re.S)
 
 
@@ -25,15 +25,18 @@ def crates():
             yield name
 
 
+CRATES = list(crates())
+
+
 def is_list(file):
     """Whether a file only lists modules."""
     return all(l.startswith(("pub mod ", "mod ", "--")) for l in file.read_text().splitlines() if l)
 
 
 def module_file(crate, path):
-    """The file of a module, or None for one that is made from the code's own structs."""
+    """The file of a module, or None for one of the toolchain's, or that is made from the code's own structs and contracts."""
     parts = path.rstrip(".").split(".")
-    if parts[0] == "declared":
+    if crate not in CRATES or parts[0] in ("declared", "contracts"):
         return None
     while parts:
         file = ROOT / "crates" / crate / "specs" / ("/".join(parts) + ".antt")
@@ -53,16 +56,16 @@ def promised(source):
     """The files that the promises of a source's public functions name."""
     text = source.read_text()
     names = {}
-    for line in re.findall(r"^ghost use (Rattle·.*?);", text, re.M | re.S):
+    for line in re.findall(r"^ghost use (Rattle\..*?);", text, re.M | re.S):
         files = used(line)
         listed = re.search(r"\{(.*)\}", line, re.S)
         alias = re.search(r" as (\w+)$", line)
         for name in listed.group(1).split(",") if listed else [alias.group(1) if alias else line.rsplit(".", 1)[-1]]:
-            names[name.strip().split(" as ")[-1].strip("_")] = files
+            names[name.strip().split(" as ")[-1].strip("◌")] = files
     for head in PUBLIC.findall(text):
-        clauses = "".join(re.findall(r"\{ (?:λ|⌜).*?⌝ \}", head, re.S))
+        clauses = "".join(re.findall(r"(?:requires|ensures)(?: \w+)? \{.*?\}$", head, re.M | re.S))
         for word in re.findall(r"[^\s(){}.⌜⌝×≡,]+", clauses):
-            yield from names.get(word.strip("_"), [])
+            yield from names.get(word.strip("◌"), [])
 
 
 def reached():
@@ -74,7 +77,7 @@ def reached():
         if file not in seen:
             seen.add(file)
             for line in file.read_text().splitlines():
-                if line.startswith("use Rattle·"):
+                if line.startswith("use Rattle."):
                     todo += used(line)
     return seen
 

@@ -17,26 +17,27 @@ count() {
     fi
 }
 
-mkdir "$work/tree" "$work/path"
+mkdir -p "$work/tree/crates/play" "$work/path"
 cp -r "$root/bin" "$work/tree/bin"
 cat >"$work/path/rt" <<'STAND_IN'
 #!/bin/sh
-# Builds target/bin/play, which prints the file `source`, if that has changed; two at once fail.
+# In crates/play, builds out/play, which prints the tree's file `source`, if that has changed; two at once fail.
 mkdir meeting 2>/dev/null || { echo "rt: two at once"; exit 1; }
 sleep 0.2
-if [ -e broken ]; then
+if [ -e ../../broken ]; then
     rmdir meeting
-    echo "rt: play NOT PROVED"
+    echo "logic=not-proved"
     exit 1
 fi
-if cmp -s source target/built; then
-    echo "rt: play proved (unchanged since it was last proved)"
+if cmp -s ../../source out/built; then
+    echo "rt: nothing has changed since the last proved build"
 else
-    mkdir -p target/bin
-    cp source target/built
-    printf '#!/bin/sh\necho %s\n' "$(cat source)" >target/bin/play
-    chmod +x target/bin/play
-    echo "rt: play proved (1 s)"
+    echo "rt: chose --jobs 2 for play"
+    mkdir -p out
+    cp ../../source out/built
+    printf '#!/bin/sh\necho %s\n' "$(cat ../../source)" >out/play
+    chmod +x out/play
+    echo "logic=proved functions=1"
 fi
 rmdir meeting
 STAND_IN
@@ -46,7 +47,7 @@ cd "$work/tree" || exit 1
 
 echo one >source
 bin/play </dev/null >../out 2>../err
-[ "$(cat ../out)" = one ] && grep -q '^play: proving and building play' ../err && grep -q '^play: play proved (1 s)$' ../err
+[ "$(cat ../out)" = one ] && grep -q '^play: proving and building play' ../err && grep -q '^play: play proved$' ../err
 count 'a first use builds, and says so' $?
 
 bin/play </dev/null >../out 2>../err
@@ -58,7 +59,7 @@ bin/play </dev/null >../out 2>../err
 [ "$(cat ../out)" = two ]
 count 'a program older than its sources is not run' $?
 
-rm -rf target
+rm -rf crates/play/out
 for use in 1 2 3; do
     bin/play </dev/null >"../out.$use" 2>"../err.$use" &
 done
@@ -68,7 +69,7 @@ count 'three first uses at once' $?
 
 : >broken
 bin/play </dev/null >../out 2>../err
-[ $? -eq 1 ] && [ ! -s ../out ] && [ "$(tail -n 1 ../err)" = 'play: rt check play failed, so there is no program to run' ]
+[ $? -eq 1 ] && [ ! -s ../out ] && [ "$(tail -n 1 ../err)" = 'play: rt run failed in crates/play, so there is no program to run' ]
 count 'sources that are not proved are not run' $?
 rm broken
 

@@ -17,7 +17,7 @@ must() {
     fi
 }
 
-must rt staticlib sumacadze
+must bin/library
 strict='-Wall -Wextra -Wpedantic -Werror -Iinclude'
 must gcc -std=c11 -O2 $strict -o "$work/play-c" examples/c/play.c target/staticlib/libsumacadze.a
 must gcc -std=c11 -O1 -g -fsanitize=address,undefined $strict -o "$work/play-c-checked" examples/c/play.c target/staticlib/libsumacadze.a

@@ -1,4 +1,6 @@
 // Where an operand points (01, 'Pointers').
+#![tactic(auto)]
+
 ghost use Rattle.std.specs.Prelude.{◌≡◌, cond, eqb, get_or};
 ghost use Rattle.machine.specs.Pointers as spec;
 ghost use Rattle.types.specs.Types.{firstBit};

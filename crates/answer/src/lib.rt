@@ -1,8 +1,10 @@
 // What a call gives back (01's first table, and 02's numbers after it), in its order. The names are the Rust's where it has one.
+#![tactic(auto)]
+
 ghost use Rattle.std.specs.Prelude.{◌≡◌};
 ghost use Rattle.answer.specs.Numbers.{told};
 
-#[derive(Drop)]
+#[derive(Clone, Copy)]
 pub enum Answer {
     Done,
     InvalidCoreSize,

@@ -1,4 +1,6 @@
 // Plays a match file (01, 'Match file', `play`), and prints what came of it.
+#![tactic(auto)]
+
 ghost use Rattle.std.specs.Prelude.{◌≡◌, ◌≤◌, length};
 ghost use Rattle.std.proofs.lemmas.List.Edits.{sets};
 ghost use Rattle.battle.specs.Text.{printed};

@@ -13,7 +13,7 @@ use match_load::load_match;
 use sim::fresh;
 
 // What comes of a file: whether it was run, the answer, the steps and writes of the run, and the header.
-#[derive(Drop)]
+#[derive(Clone, Copy)]
 pub(crate) struct Played {
     pub ran: bool,
     pub answer: Answer,

@@ -1,4 +1,6 @@
 // The packed cell of the core (01, 'Cells').
+#![tactic(auto)]
+
 ghost use Rattle.std.specs.Prelude.{◌≡◌};
 ghost use Rattle.cell.specs.Cells.{packed, unpacked, soundWord, freshCell, with_number};
 ghost use Rattle.types.specs.Types.{Field};
@@ -9,7 +11,7 @@ use types::modifier::{F, I};
 use types::opcode::STP;
 
 // An instruction of the core.
-#[derive(Drop)]
+#[derive(Clone, Copy)]
 pub struct Cell {
     pub opcode: u8,
     pub modifier: u8,

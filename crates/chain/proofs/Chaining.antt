@@ -1,25 +1,21 @@
 -- Laws of one operand's two chains: what the code finds on the way is what the machine's operand has.
 -- Assumes nothing.
 use mathlib.Core.Path.{◌≡◌, refl, sym, ap, ◌∙◌}
-use mathlib.Core.Bool.{Bool, true, false, cond, ◌&&◌, ◌||◌, false≢true}
+use mathlib.Core.Bool.{cond}
 use mathlib.Core.List.{List}
-use Prim.Native.Nat.{ℕ, ◌+◌, ◌≤◌, ◌<◌, zero-le}
+use Prim.Native.Nat.{ℕ, ◌<◌}
 use native.Mathlib.Omega.{arith}
-use lib.Dec.{eqb, leb, ltb}
-use borrow.Author.Tests.{eqb-true, leb-true, ltb-true}
+use lib.Dec.{eqb}
 use lib.ListN.{length, get_or, set, length-set}
-use lib.Seq.{get_or-set_same, get_or-set_other, set-get_or}
-use Rattle.laws.proofs.Cases.{span}
-use Rattle.laws.proofs.Tests.{both, iff}
+use lib.Seq.{get_or-set_same, set-get_or}
 use Rattle.offset.specs.Offset.{ahead}
 use Rattle.offset.proofs.Offsets.{sum_is, ahead-lt}
 use Rattle.types.specs.Types.{Field}
-use Rattle.cell.specs.Cells.{packed, unpacked, number, with_number, cell_at}
+use Rattle.cell.specs.Cells.{number, cell_at}
 use Rattle.machine.specs.declared.Rules.{Rules}
-use Rattle.machine.specs.Pointers.{Reach, here, there, through, reaches, Shift, keeps, lowers, raises, shifts, field_of, less, more, fold, located, pointed, before, after, Site, siteAt, operand}
-use Rattle.address.specs.Rounding.{fieldThrough}
-use Rattle.address.proofs.Pointing.{goes_through, shift-keeps, shift-lowers, shift-raises, word_of}
-use Rattle.chain.specs.Operands.{absolute, compares}
+use Rattle.machine.specs.Pointers.{Reach, here, there, through, reaches, Shift, keeps, lowers, raises, shifts, field_of, fold, located, pointed, before, after, Site, siteAt, operand}
+use Rattle.address.proofs.Pointing.{word_of}
+use Rattle.chain.specs.Operands.{absolute}
 use Rattle.chain.specs.inner.Chains.{Placed, wordBefore, wordAfter, pointerBy, chainsOf}
 
 -- a sum and a fold, of a core of some cells and a limit that is not 0
@@ -28,51 +24,6 @@ ahead-is {size} a b h e = sum_is size (λ z. omega arith) e
 
 pub fold_is : {limit : ℕ} (size p : ℕ) {r : ℕ} → 0 < limit → r ≡ cond (eqb limit 0) 0 (fold limit size p) → r ≡ fold limit size p
 fold_is {limit} size p h e = sum_is limit (λ z. omega arith) e
-
--- the word at a place of the core that has another word at one place
-pub word_same : (core : List ℕ) (place at word : ℕ) → place < length core → place ≡ at → word ≡ get_or (set core at word) place 0
-word_same core place at word h e = rw (← e) (sym (get_or-set_same core place word 0 h))
-
-pub word-other : (core : List ℕ) (place at word : ℕ) → (place ≡ at → ⊥) → get_or core place 0 ≡ get_or (set core at word) place 0
-word-other core place at word n = sym (get_or-set_other core at place word 0 n)
-
-module _ (size w mode : ℕ) where
-  abbrev field : Field
-  field = field_of (get_or reaches mode here)
-
-  -- the word at the write location, after the decrement
-  pub before-keeps : mode < 4 → w ≡ wordBefore (get_or shifts mode keeps) size w field
-  before-keeps h = rw (shift-keeps mode h)
-
-  pub before-raises : 6 ≤ mode → mode < 8 → w ≡ wordBefore (get_or shifts mode keeps) size w field
-  before-raises l h = rw (shift-raises mode l h)
-
-  pub before-lowers : 4 ≤ mode → mode < 6 → {found to r : ℕ} → found ≡ number (fieldThrough mode) (unpacked w) → to ≡ less size found
-      → r ≡ packed (with_number (fieldThrough mode) to (unpacked w)) → r ≡ wordBefore (get_or shifts mode keeps) size w field
-  before-lowers l h ef et er = er ∙ rw (et, ef, shift-lowers mode l h, goes_through mode (omega arith) (omega arith))
-
-  -- and after the increment
-  pub after-keeps : mode < 6 → w ≡ wordAfter (get_or shifts mode keeps) size w field
-  after-keeps h = span mode 0 6 zero-le h (λ e. rw e, (λ e. rw e, (λ e. rw e, (λ e. rw e, (λ e. rw e, (λ e. rw e, tt))))))
-
-  pub after-raises : 6 ≤ mode → mode < 8 → {found to r : ℕ} → found ≡ number (fieldThrough mode) (unpacked w) → to ≡ more size found
-      → r ≡ packed (with_number (fieldThrough mode) to (unpacked w)) → r ≡ wordAfter (get_or shifts mode keeps) size w field
-  after-raises l h ef et er = er ∙ rw (et, ef, shift-raises mode l h, goes_through mode (omega arith) h)
-
--- the end of a chain
-module _ (size limit pc folded w mode : ℕ) where
-  pub end-there : mode ≡ 1 → {r : ℕ} → r ≡ ahead size pc folded → r ≡ pointerBy (get_or reaches mode here) size limit pc folded w
-  end-there e er = er ∙ rw e
-
-  pub end-through : 2 ≤ mode → mode < 8 → {found to r : ℕ} → found ≡ number (fieldThrough mode) (unpacked w) → to ≡ fold limit size (folded + found)
-      → r ≡ ahead size pc to → r ≡ pointerBy (get_or reaches mode here) size limit pc folded w
-  end-through l h ef et er = er ∙ rw (et, ef, goes_through mode l h)
-
--- where a chain ends is a place of the core
-pub end_below : (r : Reach) (size limit pc folded w : ℕ) → pc < size → pointerBy r size limit pc folded w < size
-end_below here size limit pc folded w h = h
-end_below there size limit pc folded w h = ahead-lt size pc _ (omega arith)
-end_below (through f) size limit pc folded w h = ahead-lt size pc _ (omega arith)
 
 -- a core with a place has some cells
 pub positive : {rules : Rules} {core : List ℕ} {pc : ℕ} → Placed rules core pc → 0 < rules.size
@@ -217,33 +168,3 @@ module _ (rules : Rules) (core : List ℕ) (pc mode n : ℕ) (p : Placed rules c
             there = (word-is write c d ∙ ap (λ (q : ℕ). get_or (set core l low) q 0) write-is ∙ there-is) i;
             left = (e ∙ ap (λ (w : ℕ). wordAfter t size w f) low-is ∙ left_is) i;
           }
-
--- four tests
-pub sound-four : {a b c d w x y z : Bool} → a ≡ w → b ≡ x → c ≡ y → d ≡ z → (a && b && c && d) ≡ (w && (x && (y && (z && true))))
-sound-four {w = w} {x} {y} {z} ea eb ec ed = rw (ea, eb, ec, ed) (by w x y z)
-  where
-    by : (w x y z : Bool) → (w && x && y && z) ≡ (w && (x && (y && (z && true))))
-    by true true true true = refl
-    by true true true false = refl
-    by true true false z = refl
-    by true false y z = refl
-    by false x y z = refl
-
--- CMP, SEQ and SNE are opcodes 11 to 13
-pub compares-is : (op : ℕ) → (leb 11 op && ltb op 14) ≡ compares op
-compares-is op = iff (leb 11 op && ltb op 14) (compares op) (λ e. let b = both (leb 11 op) (ltb op 14) e in span op 11 3 (leb-true 11 op b.0) (ltb-true op 14 b.1) (λ q. rw q, (λ q. rw q, (λ q. rw q, tt)))) back
-  where
-    back : compares op ≡ true → (leb 11 op && ltb op 14) ≡ true
-    back e = by (eqb op 11) (eqb op 12) (eqb op 13) refl refl refl e
-      where
-        by : (x y z : Bool) → eqb op 11 ≡ x → eqb op 12 ≡ y → eqb op 13 ≡ z → (x || (y || (z || false))) ≡ true → (leb 11 op && ltb op 14) ≡ true
-        by true y z p q r e = rw (eqb-true op 11 p)
-        by false true z p q r e = rw (eqb-true op 12 q)
-        by false false true p q r e = rw (eqb-true op 13 r)
-        by false false false p q r e = absurd (false≢true e)
-
-pub chosen : {A : Type 0} {b c : Bool} (x y : A) → b ≡ true → b ≡ c → x ≡ cond c x y
-chosen x y t e = rw (← e, t)
-
-pub passed_over : {A : Type 0} {b c : Bool} (x y : A) → b ≡ false → b ≡ c → y ≡ cond c x y
-passed_over x y t e = rw (← e, t)

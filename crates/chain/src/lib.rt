@@ -1,4 +1,6 @@
 // The operands of an instruction under read and write limits (02, A.2): each has a chain to its read pointer and one to its write pointer.
+#![tactic(auto)]
+
 ghost use Rattle.std.specs.Prelude.{◌≡◌, cond, ◌&&◌, [], ◌∷◌, ◌<◌, length, get_or, set};
 ghost use Rattle.laws.specs.Lists.{every};
 ghost use Rattle.cell.specs.Cells.{unpacked, soundWord};
@@ -18,7 +20,7 @@ use types::opcode::{CMP, SLT};
 use word::{a_mode, b_mode, number, opcode, with_number};
 
 // Where the A operand reads, the register there; where the B operand is compared or stored to, and its register.
-#[derive(Drop)]
+#[derive(Clone, Copy)]
 pub struct Operands {
     pub jump: Absolute,
     pub ra: u64,
@@ -28,7 +30,7 @@ pub struct Operands {
 
 // Both pointers of an operand and its write location; the words at the read location, the write location, the read pointer and
 // the write pointer, and the word left at the write location.
-#[derive(Drop)]
+#[derive(Clone, Copy)]
 struct Chains {
     pub read: Absolute,
     pub write: Absolute,

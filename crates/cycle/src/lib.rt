@@ -1,4 +1,6 @@
 // Step and run, the header by value (01, 'One step').
+#![tactic(auto)]
+
 ghost use Rattle.std.specs.Prelude.{◌≡◌};
 ghost use Rattle.answer.specs.Numbers.{told};
 ghost use Rattle.machine.specs.Step as one;

@@ -1,4 +1,6 @@
 // Bytes, parts of them, and the numbers that they spell, little-endian (01, 'Match file').
+#![tactic(auto)]
+
 ghost use Rattle.std.specs.Prelude.{◌≡◌, [], ◌∷◌, get_or};
 ghost use Rattle.encoding.specs.Bytes.{value};
 ghost use Rattle.encoding.specs.Bytes as spec;

@@ -1,4 +1,6 @@
 // The packed queue entry (01, 'Queue and names').
+#![tactic(auto)]
+
 ghost use Rattle.std.specs.Prelude.{◌≡◌};
 ghost use Rattle.machine.specs.Queue.{packedEntry, unpackedEntry};
 

@@ -1,4 +1,6 @@
 // Read and write limits (02, A.2): rules with both M, which ones fresh takes, and pointers folded by them.
+#![tactic(auto)]
+
 ghost use Rattle.std.specs.Prelude.{◌≡◌, cond, ◌&&◌, ◌+◌, ◌%◌, eqb};
 ghost use Rattle.machine.specs.State.{ofSize};
 ghost use Rattle.machine.specs.Pointers as spec;

@@ -1,4 +1,6 @@
 // The parts of a record that a call is lent, put together as 01's machine (definitions in specs/), and the lengths of a header's arrays.
+#![tactic(auto)]
+
 ghost use Rattle.std.specs.Prelude.{◌≡◌, length};
 
 // The lengths of the header's arrays.

@@ -1,4 +1,6 @@
 // Whether a warrior would be loaded into a record whose header was tested, and if not, why (01, 'Load'): nothing is changed.
+#![tactic(auto)]
+
 ghost use Rattle.std.specs.Prelude.{◌≡◌, ◌&&◌, [], ◌<◌, eqb, ltb, length, get_or};
 ghost use Rattle.answer.specs.Numbers.{told};
 ghost use Rattle.lent.specs.Parts.{names_of, headerOf, machine_of};

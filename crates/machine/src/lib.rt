@@ -1,5 +1,7 @@
 // The record that 01's machine keeps beside the core's and the queue's memory. Its definitions are in specs/; there are no functions here.
 
+#![tactic(auto)]
+
 use answer::Answer;
 use offset::Absolute;
 
@@ -7,7 +9,7 @@ pub mod limits;
 
 // What fresh fixes and no call changes: the core's size, the read limit and the write limit (02, A.2).
 #[repr(C)]
-#[derive(Drop)]
+#[derive(Clone, Copy)]
 pub struct Rules {
     pub size: u32,
     pub read: u32,
@@ -16,7 +18,7 @@ pub struct Rules {
 
 // Where the ring of queued processes begins, and how many entries it has.
 #[repr(C)]
-#[derive(Drop)]
+#[derive(Clone, Copy)]
 pub struct Ring {
     pub head: u32,
     pub length: u32,
@@ -24,7 +26,7 @@ pub struct Ring {
 
 // The names: how many are held, and 16 slots of 32 bytes and a length each.
 #[repr(C)]
-#[derive(Drop)]
+#[derive(Clone, Copy)]
 pub struct Roster {
     pub held: u32,
     pub bytes: [u8; 512],
@@ -33,7 +35,7 @@ pub struct Roster {
 
 // By what changes together; each of the 16 name slots has a count and a next thread number too. Laid out as C lays it out, since programs in C and Rust hold one.
 #[repr(C)]
-#[derive(Drop)]
+#[derive(Clone, Copy)]
 pub struct Header {
     pub rules: Rules,
     pub ring: Ring,
@@ -44,7 +46,7 @@ pub struct Header {
 }
 
 // A process: its place, its thread number and the index of its name.
-#[derive(Drop)]
+#[derive(Clone, Copy)]
 pub struct Entry {
     pub place: Absolute,
     pub thread: u32,
@@ -52,14 +54,14 @@ pub struct Entry {
 }
 
 // A ceiling on total steps.
-#[derive(Drop)]
+#[derive(Clone, Copy)]
 pub enum Ceiling {
     Unsaid,
     Steps(u64),
 }
 
 // What fresh, load, step and run give back: an answer, its writes and steps, and the header.
-#[derive(Drop)]
+#[derive(Clone, Copy)]
 pub struct Outcome {
     pub answer: Answer,
     pub writes: u64,

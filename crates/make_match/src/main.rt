@@ -1,9 +1,12 @@
 // Makes a match file from a text on standard input, and writes it to standard output; or says on standard error why there is none. examples/README.md has the form of the text.
+#![tactic(auto)]
+
 ghost use Rattle.std.specs.Prelude.{◌≡◌, length};
 
 use crate::kind::OPCODE;
 use crate::reading::{Reading, failed, take_words, write_warrior};
 use crate::words::part;
+use std::io::{Read, Stdin};
 
 mod kind;
 mod reading;
@@ -112,13 +115,13 @@ fn file_memory() -> [u8; 32768]
 }
 
 // Whether standard input fails where reading stopped; at its end it does not.
-fn fails() -> bool {
+fn fails(mut input: Stdin) -> bool {
     let mut more = [0u8; 1];
-    libc::read(0, &mut more) < 0
+    input.read(&mut more).is_err()
 }
 
 // A text of 65,536 bytes has at most 5,460 instructions: 65,520 bytes of a body.
-fn main() {
+fn main(rt: HostRuntime) {
     let mut text = text_memory();
     let mut body = io::large_buffer();
     let mut odd = file_memory();
@@ -128,7 +131,7 @@ fn main() {
         io::write_all(2, b"make_match: the text is longer than 65536 bytes\n");
         return;
     }
-    if fails() {
+    if fails(rt.stdin()) {
         io::write_all(2, b"make_match: standard input cannot be read\n");
         return;
     }

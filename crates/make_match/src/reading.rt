@@ -5,7 +5,7 @@ use match_write::{Written, write_added, write_first};
 use std::num::{wrapping_add_u64, wrapping_add_usize};
 
 // What the words read so far say, and what was made of them.
-#[derive(Drop)]
+#[derive(Clone, Copy)]
 pub(crate) struct Reading {
     pub words: u64, // how many words were read
     pub wanted: u8, // the kind of the next word

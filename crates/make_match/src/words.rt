@@ -7,7 +7,7 @@ use std::num::wrapping_sub_u32;
 const TOO_LARGE: u64 = 99999999999;
 
 // The 32 bits of the number that a word says.
-#[derive(Drop)]
+#[derive(Clone, Copy)]
 pub(crate) enum Number {
     Bits(u32),
     Wrong,

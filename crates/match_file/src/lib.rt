@@ -1,4 +1,6 @@
 // Reads match files (01, 'Match file').
+#![tactic(auto)]
+
 ghost use Rattle.std.specs.Prelude.{◌≡◌};
 ghost use Rattle.answer.specs.Numbers.{told};
 ghost use Rattle.match_format.specs.Faults.{fault, faultAt};
@@ -9,7 +11,7 @@ use encoding::{byte, number16_at, number32_at, part};
 use match_format::{Fault, first_fault, first_fault_at};
 
 // How many warriors a file has, and M.
-#[derive(Drop)]
+#[derive(Clone, Copy)]
 pub struct Contents {
     pub answer: Answer,
     pub warriors: usize,
@@ -17,7 +19,7 @@ pub struct Contents {
 }
 
 // What the line of a warrior says: where in the file its name begins and how long it is, where its body begins, its instruction count, origin and place.
-#[derive(Drop)]
+#[derive(Clone, Copy)]
 pub struct Line {
     pub name_start: usize,
     pub name_length: usize,
@@ -28,7 +30,7 @@ pub struct Line {
 }
 
 // An answer, and the line, all zero where it is refused.
-#[derive(Drop)]
+#[derive(Clone, Copy)]
 pub struct LineRead {
     pub answer: Answer,
     pub line: Line,

@@ -1,4 +1,6 @@
 // The first fault of a match file (01, 'Match file'): its fields are checked in file order.
+#![tactic(auto)]
+
 ghost use Rattle.std.specs.Prelude.{◌≡◌, ◌+◌, ◌-◌, ◌*◌, ◌≤◌, length};
 ghost use Rattle.encoding.specs.Bytes.{part};
 ghost use Rattle.match_format.specs.Faults.{within, faulty, lineFault, linesFault, fault, faultAt};
@@ -6,7 +8,7 @@ ghost use Rattle.match_format.specs.Faults.{within, faulty, lineFault, linesFaul
 use encoding::{number16_at, number32_at};
 
 // Where the first fault is.
-#[derive(Drop)]
+#[derive(Clone, Copy)]
 pub enum Fault {
     Nowhere,
     At(usize),

@@ -1,4 +1,6 @@
 // Loads every warrior of a match file in one call (02, A.1).
+#![tactic(auto)]
+
 ghost use Rattle.std.specs.Prelude.{◌≡◌, true, ℕ, ◌≤◌};
 ghost use Rattle.answer.specs.Numbers.{told};
 ghost use Rattle.machine.specs.Soundness.{soundHeader};
@@ -15,14 +17,14 @@ use soundness::sound_header;
 use warrior::{Loaded, load_parts};
 
 // What comes of loads: their outcome, and the number of the warrior at which they stopped, from 0; 0 where none was refused.
-#[derive(Drop)]
+#[derive(Clone, Copy)]
 pub struct Loads {
     pub outcome: Outcome,
     pub warrior: usize,
 }
 
 // The same on the lent parts of a record: the answer, the writes, and the ring and the number of names afterwards.
-#[derive(Drop)]
+#[derive(Clone, Copy)]
 struct AllLoaded {
     answer: Answer,
     writes: u64,

@@ -1,4 +1,6 @@
 // Writes match files (01, 'Match file').
+#![tactic(auto)]
+
 ghost use Rattle.std.specs.Prelude.{◌≡◌};
 ghost use Rattle.match_format.specs.Format.{warrior};
 ghost use Rattle.match_file.specs.Reading.{warriorsAt};
@@ -13,7 +15,7 @@ use write_checks::refusal;
 mod store;
 
 // An answer, and the length written.
-#[derive(Drop)]
+#[derive(Clone, Copy)]
 pub struct Written {
     pub answer: Answer,
     pub length: usize,

@@ -1,4 +1,6 @@
 // Memory for a match file (01, 'Match file').
+#![tactic(auto)]
+
 ghost use Rattle.std.specs.Prelude.{◌≡◌, replicate};
 
 // Memory for a file, and one byte more, which tells a file that is too long.

@@ -1,4 +1,6 @@
 // The name of a warrior (01, answer 5).
+#![tactic(auto)]
+
 ghost use Rattle.std.specs.Prelude.{◌≡◌};
 ghost use Rattle.metadata.specs.Metadata.{validName};
 

@@ -1,4 +1,6 @@
 // The names that a header holds, in flat arrays: finding one, and registering one.
+#![tactic(auto)]
+
 ghost use Rattle.std.specs.Prelude.{◌≡◌, cond, ◌++◌, ◌-◌, ◌*◌, ◌≤◌, ◌<◌, leb, length, replicate};
 ghost use Rattle.std.proofs.lemmas.List.Edits.{sets};
 ghost use Rattle.laws.specs.Lists.{same};

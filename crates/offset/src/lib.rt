@@ -1,13 +1,15 @@
 // Offsets of the circular core (01, 'Offsets'): absolute ones and relative ones, joined only by `add`.
+#![tactic(auto)]
+
 ghost use Rattle.std.specs.Prelude.{◌≡◌, cond, eqb, ltb};
 ghost use Rattle.offset.specs.Offset.{euclid, ahead};
 
 // A place of the core.
-#[derive(Drop)]
+#[derive(Clone, Copy)]
 pub struct Absolute(pub u32);
 
 // A field number, counted from a place.
-#[derive(Drop)]
+#[derive(Clone, Copy)]
 pub struct Relative(pub u32);
 
 // Whether a place is one of a core of that size.

@@ -1,4 +1,6 @@
 // Plays one match file after another as `play` does: standard input has each file's length in three bytes, little-endian, and then the file.
+#![tactic(auto)]
+
 use battle::print;
 use memory::file_memory;
 

@@ -1,4 +1,6 @@
 // Puts the lines that `play` prints into memory, part by part (01, 'Match file', `play`).
+#![tactic(auto)]
+
 ghost use Rattle.std.specs.Prelude.{◌≡◌, [], ◌∷◌, ◌+◌, ◌≤◌, ◌<◌, length};
 ghost use Rattle.answer.specs.Numbers.{told};
 ghost use Rattle.printing.specs.Text as spec;

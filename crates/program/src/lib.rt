@@ -1,4 +1,6 @@
 // The body of a warrior as it is handed in (01, 'Load'): match-file bytes, 12 to an instruction.
+#![tactic(auto)]
+
 ghost use Rattle.std.specs.Prelude.{◌≡◌, ◌≤◌, length, take};
 ghost use Rattle.std.proofs.lemmas.List.Edits.{sets};
 ghost use Rattle.cell.specs.Cells.{packed};

@@ -1,4 +1,6 @@
 // The ring of queued processes, in lent memory with its head and length beside it, and the counts by name.
+#![tactic(auto)]
+
 ghost use Rattle.std.specs.Prelude.{◌≡◌, cond, [], eqb, ℕ, ◌+◌};
 ghost use Rattle.offset.specs.Offset.{ahead};
 ghost use Rattle.machine.specs.Queue as spec;

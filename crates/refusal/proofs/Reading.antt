@@ -1,4 +1,4 @@
--- Laws of the other cells read: where both limits are M, A's operand is looked at in the core, B's by the word that A leaves; and with any limits.
+-- Laws of the other cells read: where both limits are M, A's operand is looked at in the core, B's by the word that A leaves.
 -- Assumes nothing.
 use mathlib.Core.Path.{◌≡◌, sym, ap, ◌∙◌}
 use mathlib.Core.Bool.{Bool, true, false, cond, ◌&&◌}
@@ -12,15 +12,12 @@ use Rattle.offset.specs.Offset.{ahead}
 use Rattle.cell.specs.Cells.{unpacked, soundWord, store}
 use Rattle.machine.specs.declared.Rules.{Rules}
 use Rattle.machine.specs.Pointers.{Site, siteAt}
-use Rattle.machine.specs.Soundness.{validLimits}
 use Rattle.machine.specs.Whole.{formerA, formerB, Unlimited}
 use Rattle.machine.proofs.Whole.{whole-effect}
 use Rattle.word.proofs.Cells.{ahead-below}
 use Rattle.address.specs.inner.Operands.{soundSeen, Fetched}
 use Rattle.address.proofs.Pointing.{on-set, word_of}
 use Rattle.address.proofs.Evaluation.{ready-a, ready-b, valid-size}
-use Rattle.chain.specs.Operands.{isPlace}
-use Rattle.chain.proofs.Evaluating.{place_is}
 use Rattle.refusal.specs.inner.Looking.{soundBoth, left, formerSound, soundSeenAt}
 use Rattle.refusal.proofs.Looking.{left-sound, both_stored, seen-both, core-left}
 
@@ -99,8 +96,3 @@ module _ (rules : Rules) (core : List ℕ) (pc here : ℕ) (f : Fetched rules co
 pub whole-read : (rules : Rules) (core : List ℕ) (pc here : ℕ) → Fetched rules core pc here → Unlimited rules → {r : Bool} → r ≡ formerSound (siteAt rules pc) core
     → r ≡ soundSeenAt (siteAt rules pc) core
 whole-read rules core pc here f u e = e ∙ sym ((whole-effect (siteAt rules pc) core u (valid-size f) f.cells).seen (soundWord rules.size))
-
--- and with any limits
-pub limited-read : (rules : Rules) (core : List ℕ) (pc here : ℕ) → Fetched rules core pc here → validLimits rules ≡ true
-    → {r : Bool} → r ≡ (isPlace rules core pc && soundSeenAt (siteAt rules pc) core) → r ≡ soundSeenAt (siteAt rules pc) core
-limited-read rules core pc here f l e = e ∙ simp (place_is rules core pc f.cells f.place l)

@@ -6,7 +6,7 @@ use mathlib.Core.List.{List}
 use Prim.Native.Nat.{ℕ, ◌≤◌, ◌<◌}
 use lib.Dec.{eqb, leb, ltb}
 use lib.ListN.{length, get_or}
-use borrow.Author.Tests.{eq-eqb, ne_eqb, leb-true, ltb-true}
+use borrow.Author.Tests.{eq-eqb, ne_eqb, leb-true}
 use Rattle.laws.proofs.Tests.{both, and_assoc}
 use Rattle.answer.specs.Numbers.{Told, gives}
 use Rattle.cell.specs.Cells.{soundWord}
@@ -18,9 +18,8 @@ use Rattle.machine.specs.Pointers.{siteAt}
 use Rattle.machine.specs.Instruction.{fetched}
 use Rattle.machine.specs.Step.{popped, pc, site}
 use Rattle.machine.proofs.Soundness.{is-taken, taken-tests, sound-entry}
-use Rattle.address.specs.inner.Operands.{private}
-use Rattle.address.proofs.Evaluation.{over-private, few-public}
-use Rattle.refusal.specs.inner.Looking.{soundSeenAt, cellChecks}
+use Rattle.address.proofs.Evaluation.{over-private}
+use Rattle.refusal.specs.inner.Looking.{cellChecks}
 use Rattle.refusal.specs.Checks.{inBounds, refused}
 
 -- the instruction at a place
@@ -31,22 +30,9 @@ module _ (rules : Rules) (core : List ℕ) (pc : ℕ) where
   abbrev there : Told
   there = verdictTold (first (cellChecks (siteAt rules pc) core))
 
-  pub unsound-cell : soundWord size (get_or core pc 0) ≡ false → gives 9 0 ≡ there
-  unsound-cell e = simp e
-
   module _ (s : soundWord size (get_or core pc 0) ≡ true) where
     pub private-cell : 16 < (fetched core pc).opcode → gives 10 0 ≡ there
     private-cell h = let p = over-private size core pc s h in simp (s, p)
-
-    module _ (h : (fetched core pc).opcode ≤ 16) where
-      public : private core pc ≡ false
-      public = few-public core pc h
-
-      pub unsound-seen : soundSeenAt (siteAt rules pc) core ≡ false → gives 9 0 ≡ there
-      unsound-seen e = let p = public in simp (s, p, e)
-
-      pub all_sound : soundSeenAt (siteAt rules pc) core ≡ true → gives 0 0 ≡ there
-      all_sound e = let p = public in simp (s, p, e)
 
 module _ (m : Machine) where
   -- the first test, number by number, told whether the limits are valid
@@ -63,9 +49,6 @@ module _ (m : Machine) where
   module _ (w : inBounds m ≡ true) where
     taken : passes (freshChecks m.header.rules m.core m.queue) ≡ true
     taken = (both (passes (freshChecks m.header.rules m.core m.queue)) (ltb m.header.ring.head (length m.queue)) w).0
-
-    pub head-below : m.header.ring.head < length m.queue
-    head-below = ltb-true _ _ (both (passes (freshChecks m.header.rules m.core m.queue)) (ltb m.header.ring.head (length m.queue)) w).1
 
     pub size-most : m.header.rules.size ≤ 46341
     size-most = leb-true _ _ (both (leb 1 m.header.rules.size) (leb m.header.rules.size 46341) (is-taken m.header.rules m.core m.queue taken).size).1

@@ -1,4 +1,6 @@
 // The refusal of the next step, found from the lent parts of a record before anything changes (01, 'One step').
+#![tactic(auto)]
+
 ghost use Rattle.std.specs.Prelude.{◌≡◌, true, ◌||◌, ◌<◌, ◌≤◌, eqb, length, get_or};
 ghost use Rattle.answer.specs.Numbers.{told};
 ghost use Rattle.cell.specs.Cells.{soundWord};

@@ -1,4 +1,6 @@
 // Plays battles that were recorded from the Rust, and writes what each call left. tools/oracle/README.md has both forms.
+#![tactic(auto)]
+
 ghost use Rattle.std.specs.Prelude.{◌≡◌, length};
 
 use crate::reading::{after, byte, four, part, two};

@@ -1,3 +1,4 @@
+pub mod Cells
 pub mod Rounds
 pub mod Scans
 pub mod Trusting

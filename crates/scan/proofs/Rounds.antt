@@ -4,15 +4,13 @@ use mathlib.Core.Path.{◌≡◌, refl, sym, ap, ◌∙◌}
 use mathlib.Core.Bool.{Bool, true, false, ◌&&◌}
 use mathlib.Core.List.{List, [], ◌∷◌}
 use Prim.Native.Nat.{ℕ, zero, suc, ◌+◌, ◌-◌, ◌≤◌, ◌<◌}
-use native.Mathlib.Nat.{sub-zero, zero-add}
 use native.Mathlib.Omega.{arith}
 use lib.Dec.{eqb}
-use lib.ListN.{length, get_or, set, replicate}
+use lib.ListN.{length, get_or, set}
 use lib.Seq.{get_or-set_same, get_or-set_other}
 use borrow.Author.Tests.{eqb-true, eqb-false, eq-eqb}
 use Rattle.laws.specs.Lists.{oneIf, every, tally}
 use Rattle.laws.proofs.Lists.{fall, done}
-use Rattle.laws.proofs.Every.{every-or, every-replicate}
 use Rattle.offset.specs.Offset.{ahead}
 use Rattle.machine.specs.Queue.{unpackedEntry, slots}
 
@@ -39,9 +37,6 @@ module _ (q : List ℕ) (head n : ℕ) where
     abbrev pub EveryLeft : ℕ → ℕ → Type 0
     EveryLeft s i = every p (slots q head n) ≡ every p (left s i)
 
-    pub every-begins : EveryLeft head 0
-    every-begins = ap (λ (k : ℕ). every p (slots q head k)) (sym (sub-zero n))
-
     module _ (s i : ℕ) (so_far : EveryLeft s i) where
       pub every-stops : i < n → p (get_or q s 0) ≡ false → every p (slots q head n) ≡ false
       every-stops h e = so_far ∙ ap (every p) (left-first s i h) ∙ ap (λ (b : Bool). b && every p (left (ahead (length q) s 1) (i + 1))) e
@@ -55,11 +50,6 @@ module _ (q : List ℕ) (head n : ℕ) where
   -- the numbers so far and the entries left are the tally of all, for each name
   abbrev pub TallyLeft : List ℕ → ℕ → ℕ → Type 0
   TallyLeft t s i = (k : ℕ) → get_or t k 0 + tally (named k) (left s i) ≡ tally (named k) (slots q head n)
-
-  pub tally-begins : TallyLeft (replicate 16 0) head 0
-  tally-begins k =
-      ap (λ (x : ℕ). x + tally (named k) (left head 0)) (every-or (λ (x : ℕ). x ≡ 0) (replicate 16 0) k 0 (every-replicate (λ (x : ℕ). x ≡ 0) 16 0 refl) refl)
-      ∙ zero-add (tally (named k) (left head 0)) ∙ ap (λ (j : ℕ). tally (named k) (slots q head j)) (sub-zero n)
 
   module _ (t : List ℕ) (s i : ℕ) (so_far : TallyLeft t s i) where
     pub tally-ends : n ≤ i → (k : ℕ) → get_or t k 0 ≡ tally (named k) (slots q head n)

@@ -3,28 +3,19 @@
 use mathlib.Core.Path.{◌≡◌, refl, sym, ap, ◌∙◌}
 use mathlib.Core.Bool.{Bool, true, false, ◌&&◌}
 use mathlib.Core.List.{List, []}
-use Prim.Native.Nat.{ℕ, ◌+◌, ◌-◌, ◌≤◌, ◌<◌}
-use native.Mathlib.Omega.{arith}
-use lib.Dec.{eqb, leb, ltb}
-use lib.ListN.{length, get_or}
-use borrow.Author.Tests.{leb-true, ltb-true, le-leb}
+use Prim.Native.Nat.{ℕ}
+use lib.Dec.{eqb}
+use lib.ListN.{get_or}
 use Rattle.laws.specs.Lists.{every, tally, table}
-use Rattle.laws.proofs.Tests.{both, iff, and-false}
+use Rattle.laws.proofs.Tests.{and-false}
 use Rattle.machine.specs.declared.Ring.{Ring}
 use Rattle.machine.specs.declared.Rules.{Rules}
 use Rattle.machine.specs.State.{Machine}
 use Rattle.machine.specs.Queue.{slots, entries}
 use Rattle.machine.specs.Soundness.{soundEntry}
-use Rattle.lent.specs.Parts.{names_of, headerOf, noRing, unnamed, headed}
+use Rattle.lent.specs.Parts.{names_of, headerOf, noRing, unnamed}
 use Rattle.scan.proofs.Rounds.{named}
 use Rattle.scan.specs.Scanning.{in_range, soundCells, soundEntries, entries_at, tallied, lasting, lastingAll, scanned}
-
--- the room that a counter has
-pub by-room : (n k : ℕ) → n ≤ 4294967295 → leb k (4294967295 - n) ≡ lasting k n
-by-room n k h =
-    iff (leb k (4294967295 - n)) (lasting k n)
-    (λ e. let l : k ≤ 4294967295 - n = leb-true _ _ e in le-leb (n + k) 4294967295 (omega arith))
-    (λ e. let l : n + k ≤ 4294967295 = leb-true _ _ e in le-leb k (4294967295 - n) (omega arith))
 
 -- the counts, where these numbers are the tallies
 pub counts-tallied : (m : Machine) (t : List ℕ) → ((k : ℕ) → get_or t k 0 ≡ entries_at m k)
@@ -63,16 +54,6 @@ module _ (queue : List ℕ) (rules : Rules) (ring : Ring) (held : ℕ) (counts :
       → {r : Bool} → r ≡ every (λ i. eqb (get_or counts i 0) (get_or t i 0)) (table (λ i. i) 0 held) → r ≡ (soundEntries lone && tallied lone)
   by-counts e t f g =
       g ∙ counts-tallied lone t (λ k. f k ∙ tallies-are k) ∙ sym (ap (λ (b : Bool). b && tallied lone) (sym tests-are ∙ e))
-
--- what the first test says
-module _ (m : Machine) (r : in_range m ≡ true) where
-  pub few-names : m.header.names.held ≤ 16
-  few-names = leb-true _ _ (both (headed m) (leb m.header.names.held 16) r).1
-
-  pub head-below : (length m.queue ≤ 65535) × (m.header.ring.head < length m.queue)
-  head-below =
-      let h = both (leb (length m.queue) 65535) (ltb m.header.ring.head (length m.queue)) (both (headed m) (leb m.header.names.held 16) r).0 in
-      (leb-true _ _ h.0, ltb-true _ _ h.1)
 
 module _ (k : ℕ) (m : Machine) where
   regrouped : (r c e t l : Bool) → (r && c && e && t && l) ≡ (r && l && (e && t) && c)

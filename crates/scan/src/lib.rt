@@ -1,4 +1,6 @@
 // One scan of a lent record: whether it is sound all through, and no counter comes to its end within the steps to go.
+#![tactic(auto)]
+
 ghost use Rattle.std.specs.Prelude.{◌≡◌, ◌&&◌, [], ◌<◌, ◌≤◌, eqb, length, get_or};
 ghost use Rattle.laws.specs.Lists.{every, table};
 ghost use Rattle.cell.specs.Cells.{soundWord};

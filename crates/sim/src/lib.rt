@@ -1,4 +1,6 @@
 // A fresh machine, and cell reading (01, 'Queue and names', 'What a call gives back').
+#![tactic(auto)]
+
 ghost use Rattle.std.specs.Prelude.{◌≡◌};
 ghost use Rattle.answer.specs.Numbers.{told, gives};
 ghost use Rattle.cell.specs.Cells.{unpacked};
@@ -83,7 +85,7 @@ pub fn fresh(rules: Rules, core: &mut [u64], queue: &mut [u64]) -> Outcome
 }
 
 // A cell that was read, all zero where it was refused.
-#[derive(Drop)]
+#[derive(Clone, Copy)]
 pub struct Reading {
     pub answer: Answer,
     pub cell: Cell,

@@ -7,10 +7,15 @@ use Prim.Native.Nat.{ℕ, ◌+◌, ◌≤◌}
 use native.Mathlib.Nat.{sub-zero}
 use native.Mathlib.Omega.{arith}
 use lib.Dec.{leb}
+use lib.ListN.{get_or, drop}
 use borrow.Author.Tests.{leb-true, leb-false}
 use Rattle.laws.specs.Lists.{every, table}
 use Rattle.laws.proofs.Tests.{and_assoc, and-true}
 use Rattle.laws.proofs.Loops.{rest, rest-first, rest-none}
+
+-- a byte from the start on
+abbrev pub byte : List ℕ → ℕ → ℕ → ℕ
+byte names start k = get_or (drop start names) k 0
 
 module _ (p : ℕ → Bool) (f : ℕ → ℕ) (n : ℕ) where
   abbrev pub FoundTo : ℕ → Bool → Type 0

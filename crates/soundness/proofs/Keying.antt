@@ -1,46 +1,21 @@
--- Laws of the keys: keys are found one after the other, and a name whose key stands once is unlike the others.
+-- Laws of the keys: a name whose key stands once is unlike the others.
 -- Assumes nothing.
 use mathlib.Core.Path.{◌≡◌, refl, sym, ap, ◌∙◌}
 use mathlib.Core.Bool.{Bool, true, false}
-use mathlib.Core.List.{List, [], ◌∷◌}
+use mathlib.Core.List.{List}
 use mathlib.Core.Logic.{⊎_elim}
-use Prim.Native.Nat.{ℕ, zero, suc, ◌+◌, ◌-◌, ◌*◌, ◌%◌, ◌≤◌, ◌<◌, zero-le}
+use Prim.Native.Nat.{ℕ, zero, suc, ◌+◌, ◌-◌, ◌≤◌, ◌<◌, zero-le}
 use native.Mathlib.Nat.{eq-or-lt_of_le}
 use native.Mathlib.Omega.{arith}
 use lib.Dec.{eqb}
-use lib.ListN.{length, get_or, set}
-use lib.Seq.{get_or-set_same, get_or-set_other}
-use borrow.Author.Tests.{le-ltb, eq-eqb}
+use lib.ListN.{get_or}
+use borrow.Author.Tests.{eq-eqb}
 use Rattle.laws.specs.Lists.{oneIf, tally, table, total, same}
 use Rattle.laws.proofs.Tests.{never}
 use Rattle.laws.proofs.Same.{same_true}
 use Rattle.machine.specs.Names.{name_at}
 use Rattle.lent.specs.Parts.{names_of}
 use Rattle.soundness.specs.inner.Keys.{keyOf, Keyed, timesIn}
-
--- fewer than two bytes
-pub short-key : (name : List ℕ) → length name < 2 → length name + get_or name 0 0 * 256 + get_or name 0 0 * 16777216 ≡ keyOf name
-short-key [] h = refl
-short-key (x ∷ []) h = omega arith
-short-key (x ∷ y ∷ ys) h = absurd (let z : ⊥ = omega arith in z)
-
--- two bytes or more
-pub long-key : (name : List ℕ) → 2 ≤ length name
-    → length name % 256 + get_or name 0 0 * 256 + get_or name (length name - 1 - 1) 0 * 65536 + get_or name (length name - 1) 0 * 16777216 ≡ keyOf name
-long-key name h = rw (le-ltb (length name) 2 h, before)
-  where
-    before : length name - 1 - 1 ≡ length name - 2
-    before = omega arith
-
--- numbers put one after the other
-pub one_further : (f : ℕ → ℕ) (l : List ℕ) (i v : ℕ) → i < length l → ((k : ℕ) → k < i → get_or l k 0 ≡ f k) → v ≡ f i
-    → (k : ℕ) → k < i + 1 → get_or (set l i v) k 0 ≡ f k
-one_further f l i v h so_far e k lt =
-    ⊎_elim (λ (q : k ≡ i). ap (λ (j : ℕ). get_or (set l i v) j 0) q ∙ get_or-set_same l i v 0 h ∙ e ∙ ap f (sym q))
-    (λ (q : k < i). get_or-set_other l i k v 0 (λ z. omega arith) ∙ so_far k q) (eq-or-lt_of_le le)
-  where
-    le : k ≤ i
-    le = omega arith
 
 -- a test that passes nowhere in a table
 none_in : {A : Type 0} (p : A → Bool) (f : ℕ → A) (n i : ℕ) → ((k : ℕ) → i ≤ k → k < i + n → p (f k) ≡ false) → tally p (table f i n) ≡ 0

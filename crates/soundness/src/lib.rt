@@ -1,4 +1,6 @@
 // The tests of a lent record: its header, and the front entry (01, 'What a call gives back'; 02, A.2).
+#![tactic(auto)]
+
 ghost use Rattle.std.specs.Prelude.{◌≡◌, [], ℕ, ◌+◌, ◌-◌, ◌≤◌, ◌<◌, eqb, length, get_or, take, drop};
 ghost use Rattle.laws.specs.Lists.{oneIf, every, tally, table, total, same, distinct};
 ghost use Rattle.metadata.specs.Metadata.{validByte};

@@ -1,10 +1,10 @@
--- Laws of ADD, SUB, MUL, DIV and MOD on one pair: the value, whether there is one, and the target with it.
+-- Laws of ADD, DIV and MOD on one pair: the value, whether there is one, and the target with it.
 -- Assumes nothing.
 use mathlib.Core.Path.{◌≡◌, refl, sym, ap, ◌∙◌}
 use mathlib.Core.Bool.{Bool, true, false, cond}
 use mathlib.Core.Option.{some}
-use Prim.Native.Nat.{ℕ, zero, suc, ◌-◌, ◌*◌, ◌/◌, ◌%◌, ◌≤◌, ◌<◌}
-use native.Mathlib.Nat.{mod-lt, lt_of_le_of_lt, div-le_self, mod-le}
+use Prim.Native.Nat.{ℕ, zero, suc, ◌/◌, ◌%◌, ◌≤◌, ◌<◌}
+use native.Mathlib.Nat.{lt_of_le_of_lt, div-le_self, mod-le}
 use native.Mathlib.Omega.{arith}
 use lib.Dec.{eqb}
 use borrow.Author.Tests.{ne_eqb}
@@ -18,18 +18,9 @@ use Rattle.machine.specs.Execution.{put, is_none}
 use Rattle.word.specs.Words.{Reduced}
 use Rattle.steps.specs.inner.Acts.{valueBy}
 
-pub positive : {a size : ℕ} → a < size → 0 < size
-positive h = omega arith
-
--- what ADD, SUB and MUL give of a pair
+-- what ADD gives of a pair
 pub value-sum : (op size a b : ℕ) {r : ℕ} → op ≡ 2 → Reduced size a b r → (some r ≡ valueBy op size a b) × (r < size)
 value-sum op size a b e h = (rw e (ap some h.is), h.below)
-
-pub value-difference : (op size a b : ℕ) {r : ℕ} → op ≡ 3 → Reduced size b (size - a) r → (some r ≡ valueBy op size a b) × (r < size)
-value-difference op size a b e h = (rw e (ap some h.is), h.below)
-
-pub value-product : (op size a b : ℕ) → op ≡ 4 → a < size → (some (a * b % size) ≡ valueBy op size a b) × (a * b % size < size)
-value-product op size a b e h = (rw e, mod-lt (a * b) (positive h))
 
 -- DIV and MOD: none for a zero b
 pub none_is : (op size a b : ℕ) → 5 ≤ op → op < 7 → is_none (valueBy op size a b) ≡ eqb b 0

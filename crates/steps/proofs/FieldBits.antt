@@ -12,9 +12,6 @@ use Rattle.cell.proofs.Words.{pack-unpack}
 use Rattle.word.specs.Words.{fieldBy}
 use Rattle.steps.specs.inner.Acts.{FirstBit}
 
-pub bit-small : {bit : ℕ} → FirstBit bit → bit < 64
-bit-small f = ⊎_elim (λ e. omega arith) (λ e. omega arith) f
-
 -- `(w >> bit) & 0xffff`
 pub number_is : (w bit : ℕ) → FirstBit bit → bit_and (w / 2 ^ bit) 65535 ≡ number (fieldBy bit) (unpacked w)
 number_is w bit f = and_mask (w / 2 ^ bit) 16 ∙ ⊎_elim (λ e. rw e (let h : w / 1 % 65536 ≡ w % 65536 = omega arith in h)) (λ e. rw e refl) f
@@ -47,12 +44,9 @@ with-is w bit n f h k =
     middle : w - w / 2 ^ 16 % 2 ^ 16 * 2 ^ 16 + n * 2 ^ 16 ≡ w - w / 2 ^ 16 % 2 ^ 16 % 2 ^ 16 * 2 ^ 16 + n * 2 ^ 16
     middle = omega arith
 
--- a number at its bits, and the sum, fit a word
+-- a number at its bits fits a word
 pub fits : (bit n : ℕ) → FirstBit bit → n < 65536 → (n * 2 ^ bit) % 2 ^ 64 ≡ n * 2 ^ bit
 fits bit n f k = mod-eq_of_lt (let h = shifted-lt bit n f k in omega arith)
-
-pub sum-small : (w y x : ℕ) → w < 2 ^ 46 → x < 2 ^ 32 → w - y + x < 2 ^ 64
-sum-small w y x h k = omega arith
 
 -- a word of fields has no more bits
 pub packed-small : (c : Cell) → packed c < 2 ^ 46

@@ -4,10 +4,9 @@ use mathlib.Core.Path.{◌≡◌, sym, ap, ap₂, ◌∙◌}
 use mathlib.Core.Bool.{true}
 use mathlib.Core.List.{List}
 use mathlib.Core.Logic.{inl, inr}
-use Prim.Native.Nat.{ℕ, ◌/◌, ◌^◌, ◌≤◌, ◌<◌, zero-le}
+use Prim.Native.Nat.{ℕ, ◌^◌, ◌≤◌, ◌<◌}
 use native.Mathlib.Omega.{arith}
-use lib.ListN.{length, get_or, set}
-use Rattle.laws.proofs.Cases.{span}
+use lib.ListN.{get_or, set}
 use Rattle.offset.specs.declared.Absolute.{Absolute}
 use Rattle.offset.specs.Offset.{ahead}
 use Rattle.types.specs.Types.{Field, A, B, firstBit}
@@ -104,13 +103,5 @@ module _ (rules : Rules) (core : List ℕ) (pc mode n : ℕ) where
 pub same_operand : (rules : Rules) (core : List ℕ) (pc : ℕ) {m n m' n' : ℕ} → m ≡ m' → n ≡ n' → former (siteAt rules pc) core m n ≡ former (siteAt rules pc) core m' n'
 same_operand rules core pc e f = ap₂ (λ (i j : ℕ). former (siteAt rules pc) core i j) e f
 
-pub as-named : {o p : machine.Operand} {r : Operand} {l : List ℕ} → o ≡ p → (r ≡ operandOf o) × (l ≡ o.core) → (r ≡ operandOf p) × (l ≡ p.core)
-as-named e g = (g.0 ∙ ap operandOf e, g.1 ∙ ap (λ (o : machine.Operand). o.core) e)
-
 pub still_seen : (size : ℕ) {o p : machine.Operand} → o ≡ p → soundSeen size p ≡ true → soundSeen size o ≡ true
 still_seen size e h = ap (soundSeen size) e ∙ h
-
--- the writes of an operand, by its mode
-pub writes-by-mode : (mode : ℕ) → mode < 8 → mode / 2 ^ 2 ≡ length (shifted (get_or shifts mode keeps) 0)
-writes-by-mode mode h =
-    span mode 0 8 zero-le h (λ e. rw e, (λ e. rw e, (λ e. rw e, (λ e. rw e, (λ e. rw e, (λ e. rw e, (λ e. rw e, (λ e. rw e, tt))))))))

@@ -1,19 +1,18 @@
 -- What an executed instruction does to a queue: the front entry popped, and the next places pushed at the tail.
 -- Assumes nothing.
-use mathlib.Core.Path.{◌≡◌, refl, sym, ap, ap₂, subst, ◌∙◌}
+use mathlib.Core.Path.{◌≡◌, refl, sym, ap, ap₂, ◌∙◌}
 use mathlib.Core.Bool.{Bool, true, false, cond}
 use mathlib.Core.List.{List}
-use Prim.Native.Nat.{ℕ, ◌+◌, ◌-◌, ◌%◌, ◌^◌, ◌≤◌, ◌<◌}
-use native.Mathlib.Nat.{mod-lt, mod-add-mod}
+use Prim.Native.Nat.{ℕ, ◌+◌, ◌-◌, ◌%◌, ◌<◌}
+use native.Mathlib.Nat.{mod-add-mod}
 use native.Mathlib.Omega.{arith}
 use lib.Dec.{eqb}
 use lib.ListN.{length, get_or, set, length-set}
 use lib.Seq.{get_or-set_same, set-set, set-get_or}
-use borrow.Author.Tests.{le-leb, lt-leb}
+use borrow.Author.Tests.{lt-leb}
 use Rattle.answer.specs.declared.Answer.{Answer}
 use Rattle.answer.specs.declared.Answer.TheVariants.{Done}
 use Rattle.answer.specs.Numbers.{told, gives}
-use Rattle.laws.proofs.Modulo.{mod-wrap}
 use Rattle.offset.specs.declared.Absolute.{Absolute}
 use Rattle.offset.specs.Offset.{ahead}
 use Rattle.machine.specs.declared.Entry.{Entry}
@@ -53,10 +52,6 @@ one_on h l m = mod-add-mod (h + l) m 1 ∙ ap (λ (k : ℕ). k % m) (sum h l) �
     sum : (h l : ℕ) → h + l + 1 ≡ h + 1 + l
     sum h l = omega arith
 
--- the slot after the last one
-pub round-the-end : {slot slots : ℕ} → slot < slots → slots ≤ slot + 1 → 0 ≡ ahead slots slot 1
-round-the-end {slot} {slots} h l = (let z : 0 ≡ slot + 1 - slots = omega arith in z) ∙ mod-wrap l (omega arith)
-
 -- a process started, or dropped where there is no room
 module _ (queue counts threads : List ℕ) (head length' place name : ℕ) where
   abbrev lent : Machine
@@ -64,9 +59,6 @@ module _ (queue counts threads : List ℕ) (head length' place name : ℕ) where
 
   abbrev grown : Machine
   grown = cond (full lent name) lent (started place name lent)
-
-  pub dropped : length queue ≤ length' → lent ≡ grown
-  dropped h = simp (le-leb _ _ h)
 
   pub starts : {tail v n : ℕ} {q : List ℕ} → length' < length queue → tail ≡ ahead (length queue) head length' → v ≡ packedEntry (entry place (get_or threads name 0) name) → q ≡ set queue tail v → n ≡ get_or threads name 0 + 1
       → queueOf q (ringOf head (length' + 1)) (set counts name (get_or counts name 0 + 1)) (set threads name n) ≡ grown
@@ -94,13 +86,6 @@ module _ {queue counts threads : List ℕ} {head length' tail : ℕ} (f : Front 
   name-lt : name < 16
   name-lt = omega arith
 
-  pub tail-lt : tail < length queue
-  tail-lt = rw f.behind (mod-lt (head + length') (let h = f.head in omega arith))
-
-  -- the front entry's word has 52 bits
-  pub front-lt : {w : ℕ} → w ≡ get_or queue head 0 → w < 2 ^ 52
-  front-lt e = let u = f.upper in omega arith
-
   -- the front entry pushed at another place
   abbrev moved : ℕ → List ℕ
   moved next = set queue tail (packedEntry (entry next (popped line).thread name))
@@ -127,21 +112,6 @@ module _ {queue counts threads : List ℕ} {head length' tail : ℕ} (f : Front 
 
   pub pushed-tail : (v : ℕ) {h t : ℕ} {q : List ℕ} → h ≡ ahead (length queue) head 1 → (t ≡ ahead (length queue) tail 1) × (q ≡ set queue tail v) → t ≡ ahead (length q) h length'
   pushed-tail v {h = h} eh p = tail-on eh p.0 ∙ ap (λ (k : ℕ). ahead k h length') (sym (ap length p.1 ∙ length-set queue tail v))
-
-  -- what a start and an end ask, of the front entry's name
-  pub start-asks : (v : ℕ) {t : ℕ} {q : List ℕ} {e : Entry} → e ≡ popped line → (t ≡ ahead (length queue) tail 1) × (q ≡ set queue tail v)
-      → (length q ≤ 65535) × (t < length q) × (e.name < 16) × (get_or threads e.name 0 ≡ 4294967295 → ⊥) × (get_or counts e.name 0 < 4294967295)
-  start-asks v {t} {q} {e} ee p =
-      let l : length q ≡ length queue = ap length p.1 ∙ length-set queue tail v in
-      let s = f.slots in
-      let k = f.counted in
-      let below : t < length queue = rw p.0 (mod-lt (tail + 1) (let h = f.head in omega arith)) in
-      let n : (e.name < 16) × (get_or threads e.name 0 ≡ 4294967295 → ⊥) × (get_or counts e.name 0 < 4294967295)
-      = subst (λ (y : Entry). (y.name < 16) × (get_or threads y.name 0 ≡ 4294967295 → ⊥) × (get_or counts y.name 0 < 4294967295)) (sym ee) (name-lt, f.number, omega arith) in
-      (omega arith, omega arith, n.0, n.1, n.2)
-
-  pub end-asks : {e : Entry} → e ≡ popped line → (e.name < 16) × (0 < get_or counts e.name 0)
-  end-asks ee = subst (λ (y : Entry). (y.name < 16) × (0 < get_or counts y.name 0)) (sym ee) (name-lt, f.count)
 
   module _ {x : Executed} where
     pub goes_on : {next : Absolute} {wr h t : ℕ} {q : List ℕ} → x ≡ Goes next wr → h ≡ ahead (length queue) head 1 → t ≡ ahead (length queue) tail 1

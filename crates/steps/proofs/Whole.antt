@@ -15,9 +15,7 @@ use Rattle.machine.specs.Whole.{former, formerA, formerB, SameOperand, Unlimited
 use Rattle.machine.proofs.Whole.{whole-a, whole-b}
 use Rattle.address.specs.inner.Operands.{Fetched, soundSeen}
 use Rattle.address.proofs.Evaluation.{valid-size}
-use Rattle.chain.specs.declared.Operands.{Operands}
-use Rattle.chain.specs.Operands.{isPlace, absolute, compares, operandsAt, nothing}
-use Rattle.chain.proofs.Evaluating.{place_is}
+use Rattle.chain.specs.Operands.{absolute, compares, operandsAt}
 use Rattle.steps.specs.declared.operand.Operand.{Operand}
 use Rattle.steps.specs.inner.Instruction.{operandOf, Executable}
 use Rattle.steps.proofs.Seen.{register-whole}
@@ -38,12 +36,6 @@ module _ (rules : Rules) (core : List ℕ) (pc here : ℕ) (x : Executable rules
 
   abbrev last : machine.Operand
   last = bOperand s core
-
-  -- both operands, told whether the core has the place
-  pub evaluated : {o : Operands} {l : List ℕ}
-      → (o ≡ cond (isPlace rules core pc) (operandsAt s core) nothing) × (l ≡ cond (isPlace rules core pc) last.core core)
-      → (o ≡ operandsAt s core) × (l ≡ last.core)
-  evaluated g = let p = place_is rules core pc f.cells f.place x.limits in (g.0 ∙ simp p, g.1 ∙ simp p)
 
   module _ (u : Unlimited rules) where
     same-a : SameOperand first (formerA s core)

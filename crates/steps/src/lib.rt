@@ -1,4 +1,6 @@
 // Step and run on the lent parts of any record: the test of its header, then the run loop.
+#![tactic(auto)]
+
 ghost use Rattle.std.specs.Prelude.{◌≡◌};
 ghost use Rattle.answer.specs.Numbers.{told};
 ghost use Rattle.machine.specs.declared.Ceiling.TheVariants.{Steps};
@@ -21,7 +23,7 @@ mod running;
 mod stepping;
 
 // What a run answers, with its writes and steps, and the ring and the steps taken afterwards.
-#[derive(Drop)]
+#[derive(Clone, Copy)]
 pub struct Ran {
     pub answer: Answer,
     pub writes: u64,

@@ -35,7 +35,7 @@ pub(crate) fn with_number_at(w: u64, bit: u64, n: Relative) -> u64
 }
 
 // The first and the last pair of register numbers, the same one where there is one, and the first bits of their target fields.
-#[derive(Drop)]
+#[derive(Clone, Copy)]
 pub(crate) struct Met {
     pub a1: Relative,
     pub b1: Relative,

@@ -14,7 +14,7 @@ use types::opcode::{
 };
 
 // What an instruction answers: the next place, beside it the place of SPL's child, or how it ends; and the writes.
-#[derive(Drop)]
+#[derive(Clone, Copy)]
 pub(crate) enum Executed {
     Goes(Absolute, u64),
     Splits(Absolute, Absolute, u64),

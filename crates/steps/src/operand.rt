@@ -16,7 +16,7 @@ use types::mode::{IMMEDIATE, INDIRECT_A, POST_INC_INDIRECT_A, PRE_DEC_INDIRECT_A
 use word::{a_mode, b_mode, number};
 
 // An operand: its pointer and a copy of the cell there.
-#[derive(Drop)]
+#[derive(Clone, Copy)]
 pub(crate) struct Operand {
     pub pointer: Absolute,
     pub register: u64,

@@ -14,7 +14,7 @@ use machine::Entry;
 use offset::Absolute;
 
 // What a step answers, with its writes, and the ring's head, tail and length afterwards.
-#[derive(Drop)]
+#[derive(Clone, Copy)]
 pub(crate) struct Stepped {
     pub answer: Answer,
     pub writes: u64,
@@ -24,7 +24,7 @@ pub(crate) struct Stepped {
 }
 
 // The ring's tail and length.
-#[derive(Drop)]
+#[derive(Clone, Copy)]
 struct Grown {
     pub tail: u32,
     pub length: u32,

@@ -19,7 +19,7 @@ use entry::unpack;
 use machine::Rules;
 
 // The front entry and the cell at its place.
-#[derive(Drop)]
+#[derive(Clone, Copy)]
 pub(crate) struct Fetched {
     pub entry: u64,
     pub cell: u64,

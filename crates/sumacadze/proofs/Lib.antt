@@ -1,4 +1,2 @@
 pub mod Numbers
-pub mod Thin
-pub mod Answers
-pub mod Played
+pub mod Changed

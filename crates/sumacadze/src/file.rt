@@ -8,7 +8,7 @@ use answer::{number, value};
 
 // 01's number, the position of a fault, how many warriors a file has, and M.
 #[repr(C)]
-#[derive(Drop)]
+#[derive(Clone, Copy)]
 pub struct Contents {
     pub number: u8,
     pub position: usize,
@@ -18,7 +18,7 @@ pub struct Contents {
 
 // 01's number, the position of a fault, which bytes of the file are a warrior's name and body, its origin and its place.
 #[repr(C)]
-#[derive(Drop)]
+#[derive(Clone, Copy)]
 pub struct Line {
     pub number: u8,
     pub position: usize,

@@ -1,4 +1,6 @@
 // The machine's calls for programs in C and Rust (include/sumacadze.h): a fresh machine, cell reading, and load, step and run over a header that the caller lends and that is changed in place.
+#![tactic(auto)]
+
 ghost use Rattle.std.specs.Prelude.{◌≡◌};
 ghost use Rattle.answer.specs.Numbers.{gives};
 ghost use Rattle.cell.specs.Cells.{unpacked};
@@ -19,7 +21,7 @@ pub mod load_match;
 
 // 01's number, its value, and the writes and steps of a call.
 #[repr(C)]
-#[derive(Drop)]
+#[derive(Clone, Copy)]
 pub struct Report {
     pub number: u8,
     pub value: usize,
@@ -29,7 +31,7 @@ pub struct Report {
 
 // 01's number, and the header of a fresh machine.
 #[repr(C)]
-#[derive(Drop)]
+#[derive(Clone, Copy)]
 pub struct Fresh {
     pub number: u8,
     pub header: Header,
@@ -37,7 +39,7 @@ pub struct Fresh {
 
 // 01's number, and the fields of a cell.
 #[repr(C)]
-#[derive(Drop)]
+#[derive(Clone, Copy)]
 pub struct Reading {
     pub number: u8,
     pub opcode: u8,
@@ -109,10 +111,12 @@ pub extern "C" fn sumacadze_step(core: &mut [u64], queue: &mut [u64], header: &m
         ≡ givenBy (one.step (machine_of core.old queue.old header.old)) }
 {
     let s = cycle::step(core, queue, *header);
+    let counts = s.header.counts;
+    let threads = s.header.threads;
     header.ring = s.header.ring;
     header.steps = s.header.steps;
-    header.counts = s.header.counts;
-    header.threads = s.header.threads;
+    header.counts = counts;
+    header.threads = threads;
     in_numbers(s.answer, s.writes, s.steps)
 }
 
@@ -129,9 +133,11 @@ pub extern "C" fn sumacadze_run(
         ≡ givenBy (running.run (ceilingIf said ceiling) (machine_of core.old queue.old header.old)) }
 {
     let s = by_value::run(core, queue, *header, said, ceiling);
+    let counts = s.header.counts;
+    let threads = s.header.threads;
     header.ring = s.header.ring;
     header.steps = s.header.steps;
-    header.counts = s.header.counts;
-    header.threads = s.header.threads;
+    header.counts = counts;
+    header.threads = threads;
     in_numbers(s.answer, s.writes, s.steps)
 }

@@ -11,7 +11,7 @@ use machine::Header;
 
 // What comes of the loads: the report, the number of the warrior at which they stopped, from 0 (0 where none was refused), and the header.
 #[repr(C)]
-#[derive(Drop)]
+#[derive(Clone, Copy)]
 pub struct Loads {
     pub report: Report,
     pub warrior: usize,

@@ -1,4 +1,6 @@
 // The codes of an instruction: opcodes, modifiers and modes by name, default modifiers (01, 'Cells') and field pairs (01, 'One step').
+#![tactic(auto)]
+
 ghost use Rattle.std.specs.Prelude.{◌≡◌};
 ghost use Rattle.answer.specs.Numbers.{told};
 ghost use Rattle.types.specs.Defaults.{defaultModifiers, defaultIn, defaultOf, toldOf};
@@ -42,7 +44,7 @@ pub fn default_in(table: &[u8; 1216], opcode: u8, a_mode: u8, b_mode: u8) -> u8
 }
 
 // An answer, and the modifier: 255 where it is refused.
-#[derive(Drop)]
+#[derive(Clone, Copy)]
 pub struct Defaulted {
     pub answer: Answer,
     pub modifier: u8,

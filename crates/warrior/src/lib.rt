@@ -1,4 +1,6 @@
 // A warrior loaded into the core (01, 'Load').
+#![tactic(auto)]
+
 ghost use Rattle.std.specs.Prelude.{◌≡◌, cond, ℕ, ◌<◌, eqb, length};
 ghost use Rattle.answer.specs.Numbers.{told};
 ghost use Rattle.machine.specs.Load as spec;
@@ -22,7 +24,7 @@ use soundness::sound_header;
 mod placing;
 
 // What a load answers, its writes, and the ring and the number of names afterwards.
-#[derive(Drop)]
+#[derive(Clone, Copy)]
 pub struct Loaded {
     pub answer: Answer,
     pub writes: u64,

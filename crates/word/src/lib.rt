@@ -1,4 +1,6 @@
 // The opcode, the modes or a number of a packed cell (01, 'Cells'): unpacking all six fields would cost.
+#![tactic(auto)]
+
 ghost use Rattle.std.specs.Prelude.{◌≡◌};
 ghost use Rattle.cell.specs.Cells as spec;
 ghost use Rattle.word.specs.Words.{fieldBy};

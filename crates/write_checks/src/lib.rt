@@ -1,4 +1,6 @@
 // Whether a warrior would be written to a match file, and if not, why (01, 'Match file'): nothing is changed.
+#![tactic(auto)]
+
 ghost use Rattle.std.specs.Prelude.{◌≡◌, ◌&&◌, ◌+◌, ◌*◌, leb, ltb, length};
 ghost use Rattle.answer.specs.Numbers.{told};
 ghost use Rattle.write_checks.specs.Refusal.{writeTold};

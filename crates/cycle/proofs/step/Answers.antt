@@ -1,0 +1,11 @@
+-- The goals of `cycle::step` that the check leaves.
+use mathlib.Core.Path.{ap, ◌∙◌}
+use Rattle.machine.proofs.Run.{run-one}
+use Rattle.lent.specs.Parts.{machine_of}
+use Rattle.lent.specs.Given.{givenBy}
+use Rattle.cycle.proofs.step.Goals as goal
+
+pub returns : goal.returns
+returns c =
+    let a = c.args in
+    c.run_parts-s.ensures ∙ ap givenBy (run-one (machine_of a.core.now a.queue.now a.h))

@@ -1,0 +1,9 @@
+-- The goals of `refusal::cell_refusal` that the check leaves.
+use mathlib.Core.Path.{◌∙◌, sym}
+use Rattle.refusal.proofs.Refusing.{private-cell}
+use Rattle.refusal.proofs.cell_refusal.Goals as goal
+
+pub returns-then-op-gt-NOP : goal.returns-then-op-gt-NOP
+returns-then-op-gt-NOP c =
+    private-cell c.args.rules c.args.core.now c.args.pc.0 (sym c.sound.ensures ∙ c.if-not-sound.false)
+    (rw c.opcode-op.ensures at c.if-op-gt-NOP.true)

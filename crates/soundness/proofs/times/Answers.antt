@@ -1,0 +1,27 @@
+-- The goals of `soundness::times` that the check leaves.
+use mathlib.Core.Path.{◌∙◌}
+use Prim.Native.Nat.{ℕ}
+use native.Mathlib.Omega.{arith}
+use lib.Dec.{eqb}
+use lib.ListN.{get_or}
+use Rattle.laws.specs.Lists.{oneIf}
+use Rattle.laws.proofs.Loops.{total-further, total-over}
+use Rattle.soundness.specs.inner.Keys.{timesIn}
+use Rattle.soundness.proofs.Keying.{tally-total}
+use Rattle.soundness.proofs.times.Goals as goal
+
+pub loop-j-preserved : goal.loop-j-preserved
+loop-j-preserved c =
+    let a = c.args in (
+      omega arith,
+      omega arith,
+      rw c.one_if-n.ensures.0
+          (total-further (λ (k : ℕ). oneIf (eqb (get_or a.keys.now k 0) a.key)) 16 _ _ c.loop-j.invariant.2 c.loop-j-test.true),
+    )
+
+pub returns : goal.returns
+unfolding timesIn
+returns c =
+    let a = c.args in
+    total-over (λ (k : ℕ). oneIf (eqb (get_or a.keys.now k 0) a.key)) 16 _ _ c.loop-j.invariant.2 c.loop-j-test.false
+    ∙ tally-total (λ (k : ℕ). eqb k a.key) (λ (k : ℕ). get_or a.keys.now k 0) 16 0

@@ -1,0 +1,33 @@
+-- The goals of `steps::stepping::step_once` that the check leaves.
+use mathlib.Core.Path.{sym, ap, subst, ◌∙◌}
+use lib.ListN.{length}
+use Rattle.machine.specs.declared.Entry.{Entry}
+use Rattle.machine.specs.Pointers.{siteAt}
+use Rattle.machine.specs.Queue.{unpackedEntry}
+use Rattle.machine.specs.Instruction.{effectAt, coreAt, writtenAt}
+use Rattle.steps.specs.inner.Instruction.{Executable, answered}
+use Rattle.steps.proofs.Executing.{near}
+use Rattle.steps.proofs.Answers.{executes}
+use Rattle.steps.proofs.stepping.step_once.Goals as goal
+
+pub requeue-requires : goal.requeue-requires
+requeue-requires c =
+    let a = c.args in
+    let e = c.unpack-e.ensures ∙ ap unpackedEntry c.requires.1 in (
+      c.requires.0,
+      c.requires.1,
+      near _ _ _ _ (subst (λ (e : Entry). Executable a.rules a.core.now e.place.0 a.fetched.cell) (sym e) c.requires.2) _ c.execute-executed.ensures.0,
+    )
+
+pub returns : goal.returns
+returns c =
+    let a = c.args in
+    let execute = c.execute-executed in
+    let e = c.unpack-e.ensures ∙ ap unpackedEntry c.requires.1 in (
+      executes a.core.now a.queue.now a.counts.now a.threads.now a.rules a.head a.length (
+        execute.ensures.0 ∙ ap (λ (e : Entry). answered (effectAt (siteAt a.rules e.place.0) a.core.now).next (length (writtenAt (siteAt a.rules e.place.0) a.core.now))) e,
+        execute.ensures.1 ∙ ap (λ (e : Entry). coreAt (siteAt a.rules e.place.0) a.core.now) e,
+      )
+          c.requeue.ensures,
+      c.requeue.ensures.tail,
+    )
