@@ -2,6 +2,7 @@
 # Builds the static library and both examples over it, and compares what they print: with bin/play for every file in examples/ and for a few bad ones, and with what the program plays must write for each of its files.
 # Then loads 2,000 matches, damaged ones among them, each in one call, and compares every byte with a model and with the loads made one by one (tools/match_load).
 # Then makes 2,000 calls of fresh, step and run with read and write limits, damaged records among them, and compares every byte with a model (tools/limits).
+# Then loads an instruction without a modifier for each opcode, A mode and B mode byte, and compares it with a model (tools/defaults).
 # Run as: tests/library.sh. Needs rt, gcc, g++, cargo and python3; no network.
 root=$(dirname -- "$(dirname -- "$(readlink -f -- "$0")")")
 work=$(mktemp -d) || exit 1
@@ -23,6 +24,7 @@ must gcc -std=c11 -O2 $strict -o "$work/play-c" examples/c/play.c target/staticl
 must gcc -std=c11 -O1 -g -fsanitize=address,undefined $strict -o "$work/play-c-checked" examples/c/play.c target/staticlib/libsumacadze.a
 must gcc -std=c11 -O2 $strict -o "$work/call" tools/match_load/call.c target/staticlib/libsumacadze.a
 must gcc -std=c11 -O2 $strict -Itools/match_load -o "$work/call-limits" tools/limits/call.c target/staticlib/libsumacadze.a
+must gcc -std=c11 -O2 $strict -o "$work/call-defaults" tools/defaults/call.c target/staticlib/libsumacadze.a
 must g++ -std=c++11 -fsyntax-only $strict -x c++ include/sumacadze.h
 export CARGO_TARGET_DIR="$work/cargo"
 must cargo build --quiet --release --offline --manifest-path examples/rust/Cargo.toml
@@ -58,4 +60,5 @@ for program in "$work/play-c" "$work/play-c-checked" "$work/cargo/release/play";
 done
 python3 tools/match_load/compare.py "$work/call" || failed=$((failed + 1))
 python3 tools/limits/compare.py "$work/call-limits" || failed=$((failed + 1))
+python3 tools/defaults/compare.py "$work/call-defaults" || failed=$((failed + 1))
 [ "$failed" -eq 0 ]

@@ -3,7 +3,7 @@
 
 compare.py ANSWERS REPOSITORY [--reference] [--per N] [--modules N] [--only FIRST[-LAST]] [--most N] [--each]
 
-Writes the crate CRATE below REPOSITORY/crates and lists it in crates.txt; then: cd REPOSITORY && rt check CRATE.
+Writes the crate CRATE below REPOSITORY/crates and lists it in crates.txt; then: cd REPOSITORY/crates/CRATE && rt check.
 --reference  compares the Rust's machine as crate `reference` defines it, not ours
 --per      battles to a theorem (20); theorem battles-40-59 holds battles 40 to 59, counted from 0. The prover stops
            at a number of steps to a theorem: take 10 for runs of hundreds of steps, 1 for cores of thousands of cells
@@ -29,34 +29,34 @@ DEPENDS = ["laws", "answer", "offset", "types", "cell", "encoding", "metadata", 
 
 # imports of the module Play
 USES = """\
-use Rattle·cell.specs.Cells.{soundWord}
-use Rattle·program.specs.Program.{lawful, lowestFault, cells}
-use Rattle·machine.specs.declared.Ceiling.{Ceiling}
-use Rattle·machine.specs.declared.Ceiling.the-variants.{Unsaid, Steps}
-use Rattle·machine.specs.State.{ofSize, Machine, Outcome}
-use Rattle·machine.specs.Names.{names, register, numbered}
-use Rattle·machine.specs.Queue.{entries, pop, push, started}
-use Rattle·machine.specs.Soundness.{soundHeader, soundEntry}
-use Rattle·machine.specs.Fresh.{fresh}
-use Rattle·machine.specs.Load.{loaded, load}
-use Rattle·machine.specs.Pointers.{operand}
-use Rattle·machine.specs.Execution.{effectOf}
-use Rattle·machine.specs.Step.{effect, coreAfter, stepWritten, counted, executed, step}
-use Rattle·machine.specs.Run.{run}
+use Rattle.cell.specs.Cells.{soundWord}
+use Rattle.program.specs.Program.{lawful, lowestFault, cells}
+use Rattle.machine.specs.declared.Ceiling.{Ceiling}
+use Rattle.machine.specs.declared.Ceiling.TheVariants.{Unsaid, Steps}
+use Rattle.machine.specs.State.{ofSize, Machine, Outcome}
+use Rattle.machine.specs.Names.{names, register, numbered}
+use Rattle.machine.specs.Queue.{entries, pop, push, started}
+use Rattle.machine.specs.Soundness.{soundHeader, soundEntry}
+use Rattle.machine.specs.Fresh.{fresh}
+use Rattle.machine.specs.Load.{loaded, load}
+use Rattle.machine.specs.Pointers.{operand}
+use Rattle.machine.specs.Execution.{effect_of}
+use Rattle.machine.specs.Step.{effect, coreAfter, stepWritten, counted, executed, step}
+use Rattle.machine.specs.Run.{run}
 """
 
 # the shut names that a battle computes through
-OPENED = "soundWord lawful lowestFault cells register numbered entries pop push started soundHeader soundEntry fresh loaded load operand effectOf effect coreAfter stepWritten counted executed step run"
+OPENED = "soundWord lawful lowestFault cells register numbered entries pop push started soundHeader soundEntry fresh loaded load operand effect_of effect coreAfter stepWritten counted executed step run"
 
 # the calls, on a machine m: `size` and `limit` are numbers, `name` and `body` bytes, `origin` a number, `ceiling` an Option ℕ
-FRESH = "fresh (ofSize size) (replicate size 7) (replicate limit 9) .machine"
+FRESH = "(fresh (ofSize size) (replicate size 7) (replicate limit 9)).machine"
 LOAD = "load m name body origin 0"
 STEP = "step m"
 RUN = "run (ceilings ceiling) m"
 
 # what is told of an outcome o, its machine m and header h; then the core's cells and the names follow
-TOLD = "(o .number ∷ o .value ∷ o .steps ∷ h .steps ∷ []) ∷ entries m ∷ take (h .names .held) (h .counts) ∷ take (h .names .held) (h .threads)"
-NAMES = "names (h .names)"
+TOLD = "(o.number ∷ o.value ∷ o.steps ∷ h.steps ∷ []) ∷ entries m ∷ take h.names.held h.counts ∷ take h.names.held h.threads"
+NAMES = "names h.names"
 
 # the same for the Rust's machine as crate `reference` defines it
 RUST_DEPENDS = DEPENDS + ["account", "reference"]
@@ -66,7 +66,7 @@ PANIC = 14
 RUST_OPCODES = [2, 10, 0, 18, 11, 3, 9, 6, 7, 5, 4, 1, 13, 15, 14, 16, 12, 8, 17]
 
 # the theorems' modules
-OWN = f"Rattle·{CRATE}·proofs.proofs"
+OWN = f"Rattle.{CRATE}.proofs"
 SPARSE = 64
 # -------------------------------------------------------------------------------------------------------------------
 
@@ -78,9 +78,9 @@ RUST_ROWS = ["answer", "core"]
 PLAY = f"""\
 -- Plays a list of calls on 01's machine and tells what each left, as numbers.
 -- Assumes nothing.
-use Prim.Native.Nat.{{ℕ, zero, suc}}
+use Prim.Native.Nat.{{ℕ, suc}}
 use mathlib.Core.Bool.{{cond}}
-use mathlib.Core.List.{{List, [], _∷_}}
+use mathlib.Core.List.{{List, [], ◌∷◌}}
 use mathlib.Core.Option.{{Option, none, some}}
 use lib.Dec.{{eqb, leb}}
 use lib.ListN.{{take, replicate}}
@@ -106,17 +106,17 @@ changed i (w ∷ ws) = cond (eqb w {FRESH_WORD}) (changed (suc i) ws) (i ∷ w �
 
 abbrev told : ℕ → Outcome → List (List ℕ)
 told size o =
-    let m = o .machine in
-    let h = m .header in
-    {TOLD} ∷ cond (leb size {SPARSE}) (m .core) (changed 0 (m .core)) ∷ {NAMES}
+    let m = o.machine in
+    let h = m.header in
+    {TOLD} ∷ cond (leb size {SPARSE}) m.core (changed 0 m.core) ∷ {NAMES}
 
 abbrev plays : ℕ → List Call → Machine → List (List (List ℕ))
 plays size [] m = []
-plays size (c ∷ cs) m = let o = answered c m in told size o ∷ plays size cs (o .machine)
+plays size (c ∷ cs) m = let o = answered c m in told size o ∷ plays size cs o.machine
 
 unfoldable pub battle : ℕ → ℕ → List Call → List (List (List ℕ))
 unfolding {OPENED}
-battle size limit calls = plays size calls ({FRESH})
+battle size limit calls = plays size calls {FRESH}
 """
 
 RUST_PLAY = f"""\
@@ -124,17 +124,17 @@ RUST_PLAY = f"""\
 -- Assumes nothing.
 use Prim.Native.Nat.{{ℕ, suc}}
 use mathlib.Core.Bool.{{cond}}
-use mathlib.Core.List.{{List, [], _∷_, _++_, map}}
+use mathlib.Core.List.{{List, [], ◌∷◌, ◌++◌, map}}
 use mathlib.Core.Option.{{Option, none, some}}
 use lib.Dec.{{leb}}
 use lib.IntN.{{ℤ, pos, negsuc}}
 use lib.ListN.{{length}}
-use Rattle·reference.specs.Types.{{Instruction, default, opcode-number, modifier-number, mode-number, instruction-eq}}
-use Rattle·reference.specs.Modifiers.{{evaluate-a, evaluate-b}}
-use Rattle·reference.specs.Opcodes.{{execute}}
-use Rattle·reference.specs.Process.{{Entry, Pair, NoRemainingProcesses, ProcessNameExists, ExecuteDat, DivideByZero, push}}
-use Rattle·reference.specs.Core.{{Core, Returned, Answer, Ok, WarriorTooLong, Err, Panic, new, load-warrior, step, run}}
-use Rattle·reference.specs.Same.{{warriorOf}}
+use Rattle.reference.specs.Types.{{Instruction, default, opcode-number, modifier-number, mode-number, instruction-eq}}
+use Rattle.reference.specs.Modifiers.{{evaluate-a, evaluate-b}}
+use Rattle.reference.specs.Opcodes.{{execute}}
+use Rattle.reference.specs.Process.{{Entry, Pair, NoRemainingProcesses, ProcessNameExists, ExecuteDat, DivideByZero, push}}
+use Rattle.reference.specs.Core.{{Core, Returned, Answer, Ok, WarriorTooLong, Err, Panic, new, load-warrior, step, run}}
+use Rattle.reference.specs.Same.{{warriorOf}}
 
 pub data Call : Type 0 where
   loads : List ℕ → List ℕ → ℕ → Call
@@ -162,9 +162,9 @@ number (negsuc n) = 4294967295
 
 abbrev codes : Instruction → List ℕ
 codes i =
-    opcode-number (i .opcode) ∷ modifier-number (i .modifier)
-    ∷ mode-number (i .a-field .address-mode) ∷ mode-number (i .b-field .address-mode)
-    ∷ number (i .a-field .value) ∷ number (i .b-field .value) ∷ []
+    opcode-number i.opcode ∷ modifier-number i.modifier
+    ∷ mode-number i.a-field.address-mode ∷ mode-number i.b-field.address-mode
+    ∷ number i.a-field.value ∷ number i.b-field.value ∷ []
 
 abbrev every : List Instruction → List ℕ
 every [] = []
@@ -176,21 +176,21 @@ changed at [] = []
 changed at (i ∷ is) = cond (instruction-eq i default) (changed (suc at) is) (at ∷ (codes i ++ changed (suc at) is))
 
 abbrev entry : Entry → List ℕ
-entry e = e .offset ∷ e .thread ∷ e .name
+entry e = e.offset ∷ e.thread ∷ e.name
 
 abbrev value : Pair → List ℕ
-value p = p .value ∷ p .key
+value p = p.value ∷ p.key
 
 abbrev told : ℕ → Returned → List (List ℕ)
 told size r =
-    let q = r .core .process-queue in
-    (numbers (r .answer) ++ (r .core .steps-taken ∷ length (q .queue) ∷ length (q .processes) ∷ []))
-    ∷ cond (leb size {SPARSE}) (every (r .core .instructions)) (changed 0 (r .core .instructions))
-    ∷ (map entry (q .queue) ++ (map value (q .processes) ++ map value (q .next-thread-id)))
+    let q = r.core.process-queue in
+    (numbers r.answer ++ (r.core.steps-taken ∷ length q.queue ∷ length q.processes ∷ []))
+    ∷ cond (leb size {SPARSE}) (every r.core.instructions) (changed 0 r.core.instructions)
+    ∷ (map entry q.queue ++ (map value q.processes ++ map value q.next-thread-id))
 
 abbrev plays : ℕ → List Call → Core → List (List (List ℕ))
 plays size [] c = []
-plays size (x ∷ xs) c = let r = answered x c in told size r ∷ plays size xs (r .core)
+plays size (x ∷ xs) c = let r = answered x c in told size r ∷ plays size xs r.core
 
 abbrev created : ℕ → List Call → Option Core → List (List (List ℕ))
 created size calls none = []
@@ -204,11 +204,10 @@ battle size calls = created size calls (new size)
 HEAD = f"""\
 -- Battles recorded from the Rust: the definitions give the same after every call.
 -- Assumes nothing.
-use Prim.Native.Nat.{{ℕ}}
-use mathlib.Core.Path.{{_≡_, refl}}
-use mathlib.Core.List.{{List, [], _∷_}}
-use mathlib.Core.Option.{{Option, none, some}}
-use lib.ListN.{{getD}}
+use mathlib.Core.Path.{{◌≡◌, refl}}
+use mathlib.Core.List.{{[], ◌∷◌}}
+use mathlib.Core.Option.{{none, some}}
+use lib.ListN.{{get_or}}
 use {OWN}.Play.{{battle, loads, steps, runs}}
 """
 
@@ -354,7 +353,7 @@ def apart(battles, names):
         for i, rows in enumerate(b.wanted):
             for j, row in enumerate(rows):
                 name = f"battle-{index}-call-{i}-{names[j] if j < len(names) else f'row-{j - len(names)}'}"
-                found.append(theorem(name, f"getD (getD ({b.got}) {i} []) {j} []", row))
+                found.append(theorem(name, f"get_or (get_or ({b.got}) {i} []) {j} []", row))
     return "".join(found)
 
 
@@ -387,7 +386,7 @@ def main():
     shutil.rmtree(crate, ignore_errors=True)
     for part in "src", "proofs":
         os.makedirs(os.path.join(crate, part))
-    write(os.path.join(crate, "src/lib.rt"), "// Battles recorded from the Rust, as theorems. There is no code here.\n")
+    write(os.path.join(crate, "src/lib.rt"), "// Battles recorded from the Rust, as theorems. There is no code here.\n#![tactic(auto)]\n")
     write(os.path.join(crate, "proofs/Play.antt"), RUST_PLAY if o.reference else PLAY)
     stated = (lambda part: apart(part, RUST_ROWS if o.reference else ROWS)) if o.each else together
     modules = ["Play"]

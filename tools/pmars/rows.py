@@ -5,7 +5,7 @@ import draft
 
 HERE = pathlib.Path(__file__).resolve().parent
 UNFOLDING = ("unfolding soundWord lawful lowestFault cells register numbered entries pop push started soundHeader soundEntry fresh loaded load "
-             "operand effectOf effect coreAfter stepWritten counted executed step Draft.step")
+             "operand effect_of effect coreAfter stepWritten counted executed step Draft.step")
 DEPENDENCIES = "laws answer offset types cell encoding metadata program machine draft".split()
 # of these the definitions are enough
 DEFINITIONS = "machine", "draft"
@@ -82,7 +82,7 @@ def write_crate(folder, name, rows, own=()):
     crate = folder / "crates" / name
     for part in ("src", "specs", "proofs"):
         (crate / part).mkdir(parents=True)
-    (crate / "src/lib.rt").write_text("// Single steps, played elsewhere.\n")
+    (crate / "src/lib.rt").write_text("// Single steps, played elsewhere.\n#![tactic(auto)]\n")
     (crate / "specs/Lib.antt").write_text("pub mod Played\n")
     (crate / "proofs/Lib.antt").write_text("pub mod Played\n")
     (crate / "specs/Played.antt").write_text((HERE / "Played.antt.txt").read_text())

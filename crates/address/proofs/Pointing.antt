@@ -66,19 +66,6 @@ is-used keeps size n h = refl
 is-used lowers size n h = is-less size n h
 is-used raises size n h = refl
 
-pub aimed-keeps : (size mode k : ℕ) → mode < 4 → k ≡ aimed (get_or shifts mode keeps) size k
-aimed-keeps size mode k h = rw (shift-keeps mode h)
-
-pub aimed-lowers : (size mode k : ℕ) {r : ℕ} → 4 ≤ mode → mode < 6 → r ≡ decremented size k → r ≡ aimed (get_or shifts mode keeps) size k
-aimed-lowers size mode k g h e = rw (shift-lowers mode g h) e
-
-pub aimed-raises : (size mode k : ℕ) → 6 ≤ mode → k ≡ aimed (get_or shifts mode keeps) size k
-aimed-raises size mode k g = by (ltb mode 8) refl
-  where
-    by : (t : Bool) → ltb mode 8 ≡ t → k ≡ aimed (get_or shifts mode keeps) size k
-    by true e = rw (shift-raises mode g (ltb-true mode 8 e))
-    by false e = ap (λ (t : Shift). aimed t size k) (sym (get_or-eq_default shifts keeps (ltb-false mode 8 e)))
-
 -- what holds of the value stored and of what was there holds of what is there now, at any two places
 pub on-set : {A : Type 0} (P : A → Type 0) (l : List A) (i j : ℕ) (v d : A) → P v → P (get_or l j d) → P (get_or (set l i v) j d)
 on-set P [] i j v d p q = q

@@ -34,11 +34,3 @@ number_read {n = n} e d = d ∙ ap (λ (x : Fault). zeroed x n) e
 -- each warrior of it reads
 pub warrior-reads : (f : List ℕ) (i : ℕ) → fault f ≡ Nowhere → i < warriorsIn f → faultAt f i ≡ Nowhere
 warrior-reads f i e h = rw (e, lt-ltb i (warriorsIn f) h)
-
--- the parts handed back
-module _ (f : List ℕ) (k : ℕ) where
-  pub no_part : (xs : List ℕ) {q : ℕ} → faultAt f k ≡ At q → [] ≡ emptied (faultAt f k) xs
-  no_part xs e = rw e
-
-  pub its-part : {xs ys : List ℕ} → faultAt f k ≡ Nowhere → xs ≡ ys → xs ≡ emptied (faultAt f k) ys
-  its-part e d = rw e d

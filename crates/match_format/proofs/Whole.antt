@@ -89,7 +89,3 @@ module _ (f : List ℕ) where
       let h = head_ok f (else-left (fault f) (unless (ltb k (get_or f 0 0)) 0) e) in
       let b = ltb-true k (get_or f 0 0) (unless-true (ltb k (get_or f 0 0)) 0 (else-right (fault f) (unless (ltb k (get_or f 0 0)) 0) e)) in
       record { head = h; below = b; its = line_at 4 (4 + 43 * get_or f 0 0) (get_or f 0 0) k h.lines b }
-
-  -- it is below 16
-  pub below-16 : (k : ℕ) → faultAt f k ≡ Nowhere → k < 16
-  below-16 k e = let w = warrior-ok k e in omega (arith, w.below, w.head.high)

@@ -1,7 +1,7 @@
 // Offsets of the circular core (01, 'Offsets'): absolute ones and relative ones, joined only by `add`.
 #![tactic(auto)]
 
-ghost use Rattle.std.specs.Prelude.{◌≡◌, cond, eqb, ltb};
+ghost use Rattle.std.specs.Prelude.{◌≡◌, ◌<◌, ◌%◌, cond, eqb, ltb};
 ghost use Rattle.offset.specs.Offset.{euclid, ahead};
 
 // A place of the core.
@@ -19,6 +19,17 @@ pub fn within(a: Absolute, size: u32) -> bool
     a.0 < size
 }
 
+// A remainder: a number below the size is its own, which takes no division.
+fn remainder(k: u32, size: u32) -> u32
+    requires { 0 < size }
+    ensures { result ≡ k % size }
+{
+    if k < size {
+        return k;
+    }
+    k % size
+}
+
 // A number, reduced by Euclidean remainder; 0 in a core of no cells. `!n` is -(n + 1).
 pub fn reduce(n: i32, size: u32) -> Relative
     ensures { result.0 ≡ euclid n size }
@@ -28,12 +39,11 @@ pub fn reduce(n: i32, size: u32) -> Relative
     }
     if n < 0 {
         let k = !n as u32;
-        let r = size - 1 - k % size;
+        let r = size - 1 - remainder(k, size);
         Relative(r)
     } else {
         let k = n as u32;
-        let r = k % size;
-        Relative(r)
+        Relative(remainder(k, size))
     }
 }
 

@@ -2,16 +2,18 @@
 -- Assumes nothing.
 use mathlib.Core.Path.{◌≡◌, sym, ◌∙◌}
 use mathlib.Core.Bool.{true, false, cond, not}
+use mathlib.Core.Logic.{⊎_elim}
 use mathlib.Core.List.{List, [], ◌∷◌, map}
 use Prim.Native.Nat.{ℕ, suc, ◌+◌, ◌-◌, ◌*◌, ◌/◌, ◌<◌, ◌≤◌}
-use native.Mathlib.Nat.{sub-zero, zero-add}
+use native.Mathlib.Nat.{eq-or-lt_of_le, sub-zero, zero-add}
 use native.Mathlib.Numerals.{add-one}
 use native.Mathlib.Omega.{arith}
-use lib.ListN.{length, take, drop, set}
+use lib.ListN.{length-drop, length, take, drop, set}
 use lib.Seq.{drop-drop, sets}
 use Rattle.laws.specs.Lists.{lowest}
 use Rattle.laws.proofs.Lists.{fall, done, sets-past}
 use Rattle.cell.specs.Cells.{packed}
+use Rattle.program.proofs.Front.{cut_short}
 use Rattle.program.specs.Program.{instructions, split, lawful, lowestFault, cell_of, cells}
 
 -- what is left of n instructions from the i-th on
@@ -45,6 +47,16 @@ module _ (body : List ℕ) (i : ℕ) (so_far : From body i) where
   pub nowhere : i ≤ instructions body → instructions body ≤ i → instructions body ≡ lowestFault body
   nowhere l h = sym (so_far ∙ rw (rest-none body (instructions body) i h) (omega arith))
 
+-- past the last whole instruction: one cut short is faulty
+pub past_whole : (body : List ℕ) (i : ℕ) → From body i → i ≡ length body / 12 → i ≡ lowestFault body
+past_whole body i so_far e = ⊎_elim whole cut (let l : i ≤ instructions body = omega arith in eq-or-lt_of_le l)
+  where
+    whole : i ≡ instructions body → i ≡ lowestFault body
+    whole q = q ∙ nowhere body i so_far (omega arith) (omega arith)
+
+    cut : i < instructions body → i ≡ lowestFault body
+    cut h = found body i so_far h (sym (cut_short (drop (12 * i) body) (rw length-drop (omega arith))))
+
 pub from_start : (body : List ℕ) → From body 0
 unfolding lowestFault
 from_start body = rw (sub-zero, zero-add)
@@ -63,9 +75,6 @@ module _ (size : ℕ) (body core₀ core : List ℕ) (i : ℕ) (so_far : Left si
 
   pub written : (w : ℕ) → i < length body / 12 → w ≡ packed (cell_of size (take 12 (drop (12 * i) body))) → Left size body core₀ (set core i w) (i + 1)
   written w h e = so_far ∙ rw (rest-first body (length body / 12) i h, e, add-one)
-
-  pub all-written : length body / 12 ≤ i → core ≡ sets core₀ 0 (cells size body)
-  all-written h = sym (so_far ∙ rw (rest-none body (length body / 12) i h))
 
 pub none_written : (size : ℕ) (body core : List ℕ) → Left size body core core 0
 unfolding cells

@@ -1,6 +1,6 @@
 -- The instruction at the front of bytes that are at least 12: its codes and numbers, read byte by byte.
 -- Assumes nothing.
-use mathlib.Core.Path.{◌≡◌, sym, ap, ◌∙◌}
+use mathlib.Core.Path.{◌≡◌, refl, sym, ap, ◌∙◌}
 use mathlib.Core.Bool.{false, ◌&&◌}
 use mathlib.Core.List.{List, [], ◌∷◌}
 use Prim.Native.Nat.{ℕ, suc, ◌+◌, ◌<◌, ◌≤◌}
@@ -9,8 +9,8 @@ use lib.Dec.{leb, lit<, lit≤}
 use lib.IntN.{ℤ}
 use lib.ListN.{length, get_or, take, length-take}
 use lib.Seq.{get_or-take, length-take-le}
-use borrow.Author.Tests.{eq-eqb, ne_eqb}
-use Rattle.laws.proofs.Tests.{and_assoc, and-true}
+use borrow.Author.Tests.{lt-leb, le-leb, eq-eqb, ne_eqb}
+use Rattle.laws.proofs.Tests.{and-false, and_assoc, and-true}
 use Rattle.laws.proofs.Lists.{drop-first}
 use Rattle.offset.specs.Offset.{euclid}
 use Rattle.cell.specs.Cells.{packed, relative}
@@ -47,6 +47,22 @@ module _ (front : List ℕ) where
   unfolding lawful
   whole m h e =
       rw (e) (simp (eq-eqb (length (take 12 front)) 12 (length-take-le 12 front h), at 0 (lit< tt), at 2 (lit< tt), at 3 (lit< tt), and_assoc, and-true))
+
+  -- it is faulty where one code is out of range, else its modifier decides
+  module _ (long : 12 ≤ length front) where
+    pub bad_opcode : 18 < get_or front 0 0 → false ≡ lawful (take 12 front)
+    bad_opcode h = simp (lt-leb (get_or front 0 0) 18 h) at (whole (modifierOf (take 12 front)) long refl)
+
+    pub bad_a-mode : 7 < get_or front 2 0 → false ≡ lawful (take 12 front)
+    bad_a-mode h = simp (lt-leb (get_or front 2 0) 7 h, and-false) at (whole (modifierOf (take 12 front)) long refl)
+
+    pub bad_b-mode : 7 < get_or front 3 0 → false ≡ lawful (take 12 front)
+    bad_b-mode h = simp (lt-leb (get_or front 3 0) 7 h, and-false) at (whole (modifierOf (take 12 front)) long refl)
+
+    pub modifier_decides : (m : ℕ) → m ≡ modifierOf (take 12 front) → get_or front 0 0 ≤ 18 → get_or front 2 0 ≤ 7 → get_or front 3 0 ≤ 7
+        → leb m 6 ≡ lawful (take 12 front)
+    modifier_decides m e f g h =
+        simp (le-leb (get_or front 0 0) 18 f, le-leb (get_or front 2 0) 7 g, le-leb (get_or front 3 0) 7 h, and-true) at (whole m long e)
 
   -- a number of four bytes
   pub number_at : (p : ℕ) → p + 4 ≤ 12 → 12 ≤ length front

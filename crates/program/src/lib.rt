@@ -4,7 +4,6 @@
 ghost use Rattle.std.specs.Prelude.{◌≡◌, ◌≤◌, length, take};
 ghost use Rattle.std.proofs.lemmas.List.Edits.{sets};
 ghost use Rattle.cell.specs.Cells.{packed};
-ghost use Rattle.types.specs.Defaults.{defaultModifiers};
 ghost use Rattle.program.specs.Program.{instructions, modifierOf, lawful, lowestFault, cell_of, cells};
 
 use cell::{Cell, pack};
@@ -13,7 +12,7 @@ use offset::reduce;
 use types::mode::POST_INC_INDIRECT_B;
 use types::modifier::{I, UNNAMED};
 use types::opcode::STP;
-use types::{default_in, default_modifiers};
+use types::{default_88_to_94, has_default};
 
 // How many instructions a body has; a last one cut short counts.
 pub fn len(body: &[u8]) -> usize
@@ -23,60 +22,65 @@ pub fn len(body: &[u8]) -> usize
     bytes / 12 + (bytes % 12 + 11) / 12
 }
 
-// The modifier of the instruction at the front, 255 resolved by the table of defaults.
-fn modifier_of(defaults: &[u8; 1216], front: &[u8]) -> u8
-    requires { (defaults.now ≡ defaultModifiers) × (12 ≤ length front.now) }
+// The modifier of the instruction at the front, 255 resolved.
+fn modifier_of(front: &[u8]) -> u8
+    requires { 12 ≤ length front.now }
     ensures { result ≡ modifierOf (take 12 front.now) }
 {
     let modifier = front[1];
     if modifier == UNNAMED {
-        return default_in(defaults, front[0], front[2], front[3]);
+        return default_88_to_94(front[0], front[2], front[3]).modifier;
     }
     modifier
 }
 
-// Whether the instruction at the front is whole and its codes are legal.
-fn is_lawful(defaults: &[u8; 1216], front: &[u8]) -> bool
-    requires { defaults.now ≡ defaultModifiers }
+// Whether the codes of the instruction at the front are legal.
+fn is_lawful(front: &[u8]) -> bool
+    requires { 12 ≤ length front.now }
     ensures { result ≡ lawful (take 12 front.now) }
 {
-    if front.len() < 12 {
+    if front[0] > STP as u8 {
         return false;
     }
-    let modifier = modifier_of(defaults, front);
-    (front[0] <= STP as u8)
-        & (modifier <= I)
-        & (front[2] <= POST_INC_INDIRECT_B as u8)
-        & (front[3] <= POST_INC_INDIRECT_B as u8)
+    if front[2] > POST_INC_INDIRECT_B as u8 {
+        return false;
+    }
+    if front[3] > POST_INC_INDIRECT_B as u8 {
+        return false;
+    }
+    let modifier = front[1];
+    if modifier == UNNAMED {
+        return has_default(front[0], front[2], front[3]);
+    }
+    modifier <= I
 }
 
-// The lowest index of a faulty instruction; how many there are where none is.
+// The lowest index of a faulty instruction; how many there are where none is. One cut short, which is the last, is faulty.
 pub fn lowest_fault(body: &[u8]) -> usize
     ensures { result ≡ lowestFault body.now }
 {
-    let defaults = default_modifiers();
-    let count = len(body);
+    let whole = body.len() / 12;
     let mut i: usize = 0;
-    while i < count {
+    while i < whole {
         let at = 12 * i;
-        if !is_lawful(&defaults, &body[at..]) {
+        if !is_lawful(&body[at..]) {
             return i;
         }
         i += 1;
     }
-    count
+    whole
 }
 
 // The word that the instruction at the front becomes in a core of that size.
-fn word_of(defaults: &[u8; 1216], front: &[u8], size: u32) -> u64
-    requires { (defaults.now ≡ defaultModifiers) × (12 ≤ length front.now) }
+fn word_of(front: &[u8], size: u32) -> u64
+    requires { 12 ≤ length front.now }
     ensures { result ≡ packed (cell_of size (take 12 front.now)) }
 {
     let a = number32(front[4], front[5], front[6], front[7]);
     let b = number32(front[8], front[9], front[10], front[11]);
     pack(Cell {
         opcode: front[0],
-        modifier: modifier_of(defaults, front),
+        modifier: modifier_of(front),
         a_mode: front[2],
         b_mode: front[3],
         a: reduce(signed(a), size),
@@ -88,7 +92,6 @@ fn word_of(defaults: &[u8; 1216], front: &[u8], size: u32) -> u64
 pub fn write_cells(core: &mut [u64], body: &[u8], size: u32)
     ensures { core.new ≡ sets core.old 0 (cells size body.now) }
 {
-    let defaults = default_modifiers();
     let count = body.len() / 12;
     let mut i: usize = 0;
     while i < count {
@@ -96,7 +99,7 @@ pub fn write_cells(core: &mut [u64], body: &[u8], size: u32)
             return;
         }
         let at = 12 * i;
-        core[i] = word_of(&defaults, &body[at..], size);
+        core[i] = word_of(&body[at..], size);
         i += 1;
     }
 }

@@ -24,6 +24,3 @@ filled-start word memory = rw sub-zero (whole memory (replicate (length memory) 
 module _ (word : ℕ) (memory₀ memory : List ℕ) (i : ℕ) (so_far : FilledFrom word memory₀ memory i) where
   pub filled-further : i < length memory₀ → FilledFrom word memory₀ (set memory i word) (i + 1)
   filled-further h = so_far ∙ rw (fall (length memory₀) i h, add-one)
-
-  pub filled-over : length memory₀ ≤ i → memory ≡ replicate (length memory₀) word
-  filled-over h = sym (so_far ∙ rw (done (length memory₀) i h))

@@ -1,13 +1,13 @@
 -- The default modifier of an instruction that names none (01, 'Cells'; the draft, A.2.1.2).
 -- Believed. Assumes nothing.
-use Rattle.std.specs.Prelude.{ℕ, ◌+◌, ◌*◌, ◌/◌, ◌%◌, Bool, cond, ◌&&◌, List, [], ◌∷◌, eqb, leb, get_or}
+use Rattle.std.specs.Prelude.{ℕ, Bool, cond, ◌&&◌, [], ◌∷◌, eqb, leb}
 use Rattle.answer.specs.Numbers.{Told, gives}
-use Rattle.laws.specs.Lists.{among, table}
+use Rattle.laws.specs.Lists.{among}
 use Rattle.types.specs.Opcode.{DAT, MOV, ADD, SUB, MUL, DIV, MOD, JMP, JMZ, JMN, DJN, CMP, SEQ, SNE, SLT, SPL, NOP, STP}
 use Rattle.types.specs.Modifier.{B, AB, F, I}
 use Rattle.types.specs.Mode.{Immediate, PostIncIndirectB}
 
--- in a match file 255 asks for the default; in the table it says that there is none
+-- in a match file 255 asks for the default; as a default it says that there is none
 abbrev pub unnamed : ℕ
 unnamed = 255
 
@@ -24,17 +24,9 @@ defaultModifier op a b =
     (cond (among (ADD ∷ SUB ∷ MUL ∷ DIV ∷ MOD ∷ []) op) F
     unnamed))))))
 
--- the table of 1,216 entries, opcode by A mode by B mode
-abbrev pub defaultModifiers : List ℕ
-defaultModifiers = table (λ i. defaultModifier (i / 64) (i / 8 % 8) (i % 8)) 0 1216
-
 -- codes in range
 abbrev pub ranged : ℕ → ℕ → ℕ → Bool
 ranged op a b = leb op STP && leb a PostIncIndirectB && leb b PostIncIndirectB
-
--- what such a table has for these codes, 255 for a code out of range
-abbrev pub defaultIn : List ℕ → ℕ → ℕ → ℕ → ℕ
-defaultIn entries op a b = cond (ranged op a b) (get_or entries (op * 64 + a * 8 + b) 0) unnamed
 
 -- the default of these codes, 255 where there is none
 abbrev pub defaultOf : ℕ → ℕ → ℕ → ℕ

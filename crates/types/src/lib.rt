@@ -1,46 +1,71 @@
 // The codes of an instruction: opcodes, modifiers and modes by name, default modifiers (01, 'Cells') and field pairs (01, 'One step').
 #![tactic(auto)]
 
-ghost use Rattle.std.specs.Prelude.{◌≡◌};
+ghost use Rattle.std.specs.Prelude.{◌≡◌, leb};
 ghost use Rattle.answer.specs.Numbers.{told};
-ghost use Rattle.types.specs.Defaults.{defaultModifiers, defaultIn, defaultOf, toldOf};
+ghost use Rattle.types.specs.Defaults.{ranged, defaultModifier, defaultOf, toldOf};
+ghost use Rattle.types.specs.Modifier.{I};
 ghost use Rattle.types.specs.Types.{fieldPairs};
 
-use crate::defaults::DEFAULTS;
 use crate::field::{A, B};
-use crate::mode::POST_INC_INDIRECT_B;
-use crate::modifier::UNNAMED;
-use crate::opcode::STP;
+use crate::mode::{IMMEDIATE, POST_INC_INDIRECT_B};
+use crate::modifier::{AB, F, I, UNNAMED};
+use crate::opcode::{
+    ADD, CMP, DAT, DIV, DJN, JMN, JMP, JMZ, LDP, MOD, MOV, MUL, NOP, SEQ, SLT, SNE, SPL, STP, SUB,
+};
 use answer::Answer;
 
-mod defaults;
 pub mod field;
 pub mod mode;
 pub mod modifier;
 pub mod opcode;
 
-// The default modifiers, opcode by A mode by B mode. 255: none.
-pub fn default_modifiers() -> [u8; 1216]
-    ensures { result ≡ defaultModifiers }
+// Whether the codes are in range.
+fn in_range(opcode: u8, a_mode: u8, b_mode: u8) -> bool
+    ensures { result ≡ ranged opcode a_mode b_mode }
 {
-    DEFAULTS
+    opcode <= STP as u8
+        && a_mode <= POST_INC_INDIRECT_B as u8
+        && b_mode <= POST_INC_INDIRECT_B as u8
 }
 
-// The entry of such a table for these codes; 255 for a code out of range.
-pub fn default_in(table: &[u8; 1216], opcode: u8, a_mode: u8, b_mode: u8) -> u8
-    ensures { result ≡ defaultIn table.now opcode a_mode b_mode }
+// The rule, for codes in range; 255 where it gives none.
+fn default_modifier(opcode: u8, a_mode: u8, b_mode: u8) -> u8
+    ensures { result ≡ defaultModifier opcode a_mode b_mode }
 {
-    if opcode > STP as u8 {
+    match opcode as u64 {
+        DAT => F,
+        JMP | JMZ | JMN | DJN | SPL | NOP => modifier::B,
+        _ if a_mode as u64 == IMMEDIATE => AB,
+        _ if b_mode as u64 == IMMEDIATE => modifier::B,
+        MOV | CMP | SEQ | SNE => I,
+        SLT => modifier::B,
+        ADD | SUB | MUL | DIV | MOD => F,
+        _ => UNNAMED,
+    }
+}
+
+// The default modifier of these codes; 255 where there is none, or a code is out of range.
+fn default_of(opcode: u8, a_mode: u8, b_mode: u8) -> u8
+    ensures { result ≡ defaultOf opcode a_mode b_mode }
+{
+    if !in_range(opcode, a_mode, b_mode) {
         return UNNAMED;
     }
-    if a_mode > POST_INC_INDIRECT_B as u8 {
-        return UNNAMED;
+    default_modifier(opcode, a_mode, b_mode)
+}
+
+// Whether these codes have a default: all in range do, but LDP and STP without `#`.
+pub fn has_default(opcode: u8, a_mode: u8, b_mode: u8) -> bool
+    ensures { result ≡ leb (defaultOf opcode a_mode b_mode) I }
+{
+    if !in_range(opcode, a_mode, b_mode) {
+        return false;
     }
-    if b_mode > POST_INC_INDIRECT_B as u8 {
-        return UNNAMED;
+    if opcode < LDP as u8 {
+        return true;
     }
-    let i = opcode as usize * 64 + a_mode as usize * 8 + b_mode as usize;
-    table[i]
+    (a_mode as u64 == IMMEDIATE) | (b_mode as u64 == IMMEDIATE)
 }
 
 // An answer, and the modifier: 255 where it is refused.
@@ -54,8 +79,7 @@ pub struct Defaulted {
 pub fn default_88_to_94(opcode: u8, a_mode: u8, b_mode: u8) -> Defaulted
     ensures { (told result.answer ≡ toldOf (defaultOf opcode a_mode b_mode)) × (result.modifier ≡ defaultOf opcode a_mode b_mode) }
 {
-    let table = default_modifiers();
-    let modifier = default_in(&table, opcode, a_mode, b_mode);
+    let modifier = default_of(opcode, a_mode, b_mode);
     if modifier == UNNAMED {
         return Defaulted {
             answer: Answer::InvalidCode(0),

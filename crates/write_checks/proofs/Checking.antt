@@ -26,18 +26,6 @@ module _ (n rest len room : ℕ) where
   pub room_for : (ltb n 16 && leb (4 + 43 * (n + 1) + rest + len) room) ≡ true → (n < 16) × (4 + 43 * (n + 1) + rest + len ≤ room)
   room_for e = let k = both (ltb n 16) (leb (4 + 43 * (n + 1) + rest + len) room) e in (ltb-true n 16 k.0, leb-true (4 + 43 * (n + 1) + rest + len) room k.1)
 
-  module _ (h : n ≤ 15) where
-    pub too_short : room < 4 + 43 * (n + 1) + rest + len → false ≡ (ltb n 16 && leb (4 + 43 * (n + 1) + rest + len) room)
-    too_short k = simp (lt-ltb n 16 (omega arith), lt-leb (4 + 43 * (n + 1) + rest + len) room k)
-
-    pub left_over : 4 + 43 * (n + 1) ≤ room → rest ≤ room - (4 + 43 * (n + 1))
-        → leb len (room - (4 + 43 * (n + 1)) - rest) ≡ (ltb n 16 && leb (4 + 43 * (n + 1) + rest + len) room)
-    left_over k l = simp (lt-ltb n 16 (omega arith)) (go (leb len (room - (4 + 43 * (n + 1)) - rest)) refl)
-      where
-        go : (b : Bool) → leb len (room - (4 + 43 * (n + 1)) - rest) ≡ b → b ≡ leb (4 + 43 * (n + 1) + rest + len) room
-        go true e = sym (le-leb (4 + 43 * (n + 1) + rest + len) room (let g = leb-true len _ e in omega arith))
-        go false e = sym (lt-leb (4 + 43 * (n + 1) + rest + len) room (let g = leb-false len _ e in omega arith))
-
 -- a 17th warrior, or an output that is too short
 pub full-or-not : (n r m : ℕ) → (leb 16 n || ltb m r) ≡ not (ltb n 16 && leb r m)
 full-or-not n r m = go (ltb n 16) refl (leb r m) refl

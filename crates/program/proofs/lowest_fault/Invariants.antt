@@ -4,7 +4,7 @@ use Rattle.program.proofs.Bodies.{From}
 use Rattle.program.proofs.lowest_fault.Given as goal
 
 abbrev pub invariant-loop-i : goal.invariant-loop-i
-invariant-loop-i l = (l.i ≤ l.count) × From l.body l.i
+invariant-loop-i l = (l.i ≤ l.whole) × From l.body l.i
 
 abbrev pub decreases-loop-i : goal.decreases-loop-i
-decreases-loop-i l = l.count - l.i
+decreases-loop-i l = l.whole - l.i
