@@ -3,7 +3,7 @@
 
 A file of specs/ is believed when a promise of a public function, or a demand, reaches it: it is named in the `requires` or `ensures` of a `pub fn`
 (by that file's `ghost use` lines) or stands in crates/demands/specs, or such a file uses it. Every other file is inner. The head of a file says which,
-by a line of its first comment that begins 'Believed.' or 'Inner.'; inner files stand in specs/inner.
+by a line of its first comment that begins 'Believed.' or 'Inner.'; inner files stand in specs/Inner.
 README.md has a row for each crate with its believed files and their lines of definitions.
 Run as: tests/believed.py           checks every head and README.md; status 1 where one is wrong
         tests/believed.py --rows    prints the rows for README.md

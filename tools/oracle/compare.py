@@ -29,27 +29,27 @@ DEPENDS = ["laws", "answer", "offset", "types", "cell", "encoding", "metadata", 
 
 # imports of the module Play
 USES = """\
-use Rattle.cell.specs.Cells.{soundWord}
-use Rattle.program.specs.Program.{lawful, lowestFault, cells}
+use Rattle.cell.specs.Cells.{sound_word}
+use Rattle.program.specs.Program.{lawful, lowest_fault, cells}
 use Rattle.machine.specs.declared.Ceiling.{Ceiling}
 use Rattle.machine.specs.declared.Ceiling.TheVariants.{Unsaid, Steps}
-use Rattle.machine.specs.State.{ofSize, Machine, Outcome}
+use Rattle.machine.specs.State.{of_size, Machine, Outcome}
 use Rattle.machine.specs.Names.{names, register, numbered}
 use Rattle.machine.specs.Queue.{entries, pop, push, started}
-use Rattle.machine.specs.Soundness.{soundHeader, soundEntry}
+use Rattle.machine.specs.Soundness.{sound_header, sound_entry}
 use Rattle.machine.specs.Fresh.{fresh}
 use Rattle.machine.specs.Load.{loaded, load}
 use Rattle.machine.specs.Pointers.{operand}
 use Rattle.machine.specs.Execution.{effect_of}
-use Rattle.machine.specs.Step.{effect, coreAfter, stepWritten, counted, executed, step}
+use Rattle.machine.specs.Step.{effect, core_after, step_written, counted, executed, step}
 use Rattle.machine.specs.Run.{run}
 """
 
 # the shut names that a battle computes through
-OPENED = "soundWord lawful lowestFault cells register numbered entries pop push started soundHeader soundEntry fresh loaded load operand effect_of effect coreAfter stepWritten counted executed step run"
+OPENED = "sound_word lawful lowest_fault cells register numbered entries pop push started sound_header sound_entry fresh loaded load operand effect_of effect core_after step_written counted executed step run"
 
 # the calls, on a machine m: `size` and `limit` are numbers, `name` and `body` bytes, `origin` a number, `ceiling` an Option ℕ
-FRESH = "(fresh (ofSize size) (replicate size 7) (replicate limit 9)).machine"
+FRESH = "(fresh (of_size size) (replicate size 7) (replicate limit 9)).machine"
 LOAD = "load m name body origin 0"
 STEP = "step m"
 RUN = "run (ceilings ceiling) m"
@@ -60,7 +60,7 @@ NAMES = "names h.names"
 
 # the same for the Rust's machine as crate `reference` defines it
 RUST_DEPENDS = DEPENDS + ["account", "reference"]
-RUST_OPENED = "evaluate-a evaluate-b execute push load-warrior step run"
+RUST_OPENED = "evaluate_a evaluate_b execute push load_warrior step run"
 PANIC = 14
 # its opcodes, by the numbers of docs/MACHINE.md
 RUST_OPCODES = [2, 10, 0, 18, 11, 3, 9, 6, 7, 5, 4, 1, 13, 15, 14, 16, 12, 8, 17]
@@ -129,12 +129,12 @@ use mathlib.Core.Option.{{Option, none, some}}
 use lib.Dec.{{leb}}
 use lib.IntN.{{ℤ, pos, negsuc}}
 use lib.ListN.{{length}}
-use Rattle.reference.specs.Types.{{Instruction, default, opcode-number, modifier-number, mode-number, instruction-eq}}
-use Rattle.reference.specs.Modifiers.{{evaluate-a, evaluate-b}}
+use Rattle.reference.specs.Types.{{Instruction, default, opcode_number, modifier_number, mode_number, instruction_eq}}
+use Rattle.reference.specs.Modifiers.{{evaluate_a, evaluate_b}}
 use Rattle.reference.specs.Opcodes.{{execute}}
 use Rattle.reference.specs.Process.{{Entry, Pair, NoRemainingProcesses, ProcessNameExists, ExecuteDat, DivideByZero, push}}
-use Rattle.reference.specs.Core.{{Core, Returned, Answer, Ok, WarriorTooLong, Err, Panic, new, load-warrior, step, run}}
-use Rattle.reference.specs.Same.{{warriorOf}}
+use Rattle.reference.specs.Core.{{Core, Returned, Answer, Ok, WarriorTooLong, Err, Panic, new, load_warrior, step, run}}
+use Rattle.reference.specs.Same.{{warrior_of}}
 
 pub data Call : Type 0 where
   loads : List ℕ → List ℕ → ℕ → Call
@@ -142,7 +142,7 @@ pub data Call : Type 0 where
   runs : Option ℕ → Call
 
 abbrev answered : Call → Core → Returned
-answered (loads name body origin) c = load-warrior (warriorOf name body origin) c
+answered (loads name body origin) c = load_warrior (warrior_of name body origin) c
 answered steps c = step c
 answered (runs ceiling) c = run ceiling c
 
@@ -162,9 +162,9 @@ number (negsuc n) = 4294967295
 
 abbrev codes : Instruction → List ℕ
 codes i =
-    opcode-number i.opcode ∷ modifier-number i.modifier
-    ∷ mode-number i.a-field.address-mode ∷ mode-number i.b-field.address-mode
-    ∷ number i.a-field.value ∷ number i.b-field.value ∷ []
+    opcode_number i.opcode ∷ modifier_number i.modifier
+    ∷ mode_number i.a_field.address_mode ∷ mode_number i.b_field.address_mode
+    ∷ number i.a_field.value ∷ number i.b_field.value ∷ []
 
 abbrev every : List Instruction → List ℕ
 every [] = []
@@ -173,7 +173,7 @@ every (i ∷ is) = codes i ++ every is
 -- each instruction that is not the default, after its place
 abbrev changed : ℕ → List Instruction → List ℕ
 changed at [] = []
-changed at (i ∷ is) = cond (instruction-eq i default) (changed (suc at) is) (at ∷ (codes i ++ changed (suc at) is))
+changed at (i ∷ is) = cond (instruction_eq i default) (changed (suc at) is) (at ∷ (codes i ++ changed (suc at) is))
 
 abbrev entry : Entry → List ℕ
 entry e = e.offset ∷ e.thread ∷ e.name
@@ -183,10 +183,10 @@ value p = p.value ∷ p.key
 
 abbrev told : ℕ → Returned → List (List ℕ)
 told size r =
-    let q = r.core.process-queue in
-    (numbers r.answer ++ (r.core.steps-taken ∷ length q.queue ∷ length q.processes ∷ []))
+    let q = r.core.process_queue in
+    (numbers r.answer ++ (r.core.steps_taken ∷ length q.queue ∷ length q.processes ∷ []))
     ∷ cond (leb size {SPARSE}) (every r.core.instructions) (changed 0 r.core.instructions)
-    ∷ (map entry q.queue ++ (map value q.processes ++ map value q.next-thread-id))
+    ∷ (map entry q.queue ++ (map value q.processes ++ map value q.next_thread_id))
 
 abbrev plays : ℕ → List Call → Core → List (List (List ℕ))
 plays size [] c = []

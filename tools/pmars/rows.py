@@ -4,8 +4,8 @@ import os, pathlib, shutil
 import draft
 
 HERE = pathlib.Path(__file__).resolve().parent
-UNFOLDING = ("unfolding soundWord lawful lowestFault cells register numbered entries pop push started soundHeader soundEntry fresh loaded load "
-             "operand effect_of effect coreAfter stepWritten counted executed step Draft.step")
+UNFOLDING = ("unfolding sound_word lawful lowest_fault cells register numbered entries pop push started sound_header sound_entry fresh loaded load "
+             "operand effect_of effect core_after step_written counted executed step Draft.step")
 DEPENDENCIES = "laws answer offset types cell encoding metadata program machine draft".split()
 # of these the definitions are enough
 DEFINITIONS = "machine", "draft"

@@ -9,7 +9,7 @@ use native.Mathlib.Omega.{arith}
 use lib.Dec.{eqb}
 use lib.ListN.{length}
 use borrow.Author.Tests.{ne_eqb}
-use Rattle.laws.specs.Lists.{oneIf, tally, same}
+use Rattle.laws.specs.Lists.{one_if, tally, same}
 use Rattle.laws.proofs.Tests.{and-true}
 use Rattle.program.specs.Program.{instructions, cells}
 use Rattle.metadata.specs.Metadata.{called}
@@ -18,22 +18,22 @@ use Rattle.machine.specs.declared.Ceiling.{Ceiling}
 use Rattle.machine.specs.declared.Roster.{Roster}
 use Rattle.machine.specs.declared.Rules.{Rules}
 use Rattle.machine.specs.State.{Machine, Outcome, joined, accepted, refusal, settle}
-use Rattle.machine.specs.Names.{isNew}
-use Rattle.machine.specs.Queue.{entries, name_of, entriesOf, front}
-use Rattle.machine.specs.Soundness.{soundHeader}
-use Rattle.machine.specs.Fresh.{freshMachine, fresh}
+use Rattle.machine.specs.Names.{is_new}
+use Rattle.machine.specs.Queue.{entries, name_of, entries_of, front}
+use Rattle.machine.specs.Soundness.{sound_header}
+use Rattle.machine.specs.Fresh.{fresh_machine, fresh}
 use Rattle.machine.specs.Load.{loaded, load}
-use Rattle.machine.specs.Step.{coreAfter, executed, step, executes}
-use Rattle.machine.specs.Run.{plays, ceilingOf, run}
+use Rattle.machine.specs.Step.{core_after, executed, step, executes}
+use Rattle.machine.specs.Run.{plays, ceiling_of, run}
 use Rattle.machine.proofs.Step.{step-writes-three, Executed, is-executed, step-by-cases, step-some}
 use Rattle.machine.proofs.Fresh.{fresh-accepted, fresh-lengths}
 use Rattle.machine.proofs.Load.{Loaded, loadable, is-loaded, load-by-cases}
 use Rattle.machine.proofs.ByName.{Stepped, stepped, Begun, begun}
 use Rattle.machine.proofs.SoundMachine.{SoundMachine, sound-ready, step_keeps, load-keeps, fresh-sound}
 use Rattle.account.specs.Calls as Calls
-use Rattle.account.specs.Calls.{Call, Load, Step, Run, outcome, left, reported, Event, logStep, logSteps, logRun, logCall, logged}
+use Rattle.account.specs.Calls.{Call, Load, Step, Run, outcome, left, reported, Event, log_step, log_steps, log_run, log_call, logged}
 use Rattle.account.specs.Lists.{spread, SameCalls}
-use Rattle.account.specs.Account.{Account, EveryAccount, load_of, childOf, endingOf, sinceEnding, differing}
+use Rattle.account.specs.Account.{Account, EveryAccount, load_of, child_of, ending_of, since_ending, differing}
 use Rattle.account.proofs.Cells.{step-cells, placed-cells, fresh_cells}
 use Rattle.account.proofs.Spread.{spreads}
 
@@ -47,22 +47,22 @@ module _ (m m' : Machine) (t : List ℕ) (w x : ℕ) (log : List Event) (i : Inv
   abbrev happened : ℕ → List Event
   happened p = Calls.executed t p x ∷ log
 
-  balance : (n : List ℕ) (p : ℕ) → p ≤ 2 → entriesOf m' n + oneIf (same t n) ≡ entriesOf m n + p * oneIf (same t n)
-      → entriesOf m' n + tally (endingOf n) (happened p) ≡ tally (load_of n) (happened p) + tally (childOf n) (happened p)
+  balance : (n : List ℕ) (p : ℕ) → p ≤ 2 → entries_of m' n + one_if (same t n) ≡ entries_of m n + p * one_if (same t n)
+      → entries_of m' n + tally (ending_of n) (happened p) ≡ tally (load_of n) (happened p) + tally (child_of n) (happened p)
   balance n zero h e = let a = i.account.entries n in omega arith
   balance n (suc zero) h e = let a = i.account.entries n in omega arith
   balance n (suc (suc zero)) h e = let a = i.account.entries n in omega arith
   balance n (suc (suc (suc p))) h e = absurd (let f : ⊥ = omega arith in f)
 
-  idle : (n : List ℕ) (p : ℕ) → p ≤ 2 → oneIf (same t n) ≤ entriesOf m n → entriesOf m' n + oneIf (same t n) ≡ entriesOf m n + p * oneIf (same t n)
-      → entriesOf m' n ≡ 0 → sinceEnding n (happened p) ≡ 0
+  idle : (n : List ℕ) (p : ℕ) → p ≤ 2 → one_if (same t n) ≤ entries_of m n → entries_of m' n + one_if (same t n) ≡ entries_of m n + p * one_if (same t n)
+      → entries_of m' n ≡ 0 → since_ending n (happened p) ≡ 0
   idle n p h a e z = go p (same t n) h a e
     where
-      old : entriesOf m n ≡ 0 → sinceEnding n log ≡ 0
+      old : entries_of m n ≡ 0 → since_ending n log ≡ 0
       old = i.account.idle n
 
-      go : (p : ℕ) (b : Bool) → p ≤ 2 → oneIf b ≤ entriesOf m n → entriesOf m' n + oneIf b ≡ entriesOf m n + p * oneIf b
-          → cond (eqb p 0 && b) 0 (oneIf b + sinceEnding n log) ≡ 0
+      go : (p : ℕ) (b : Bool) → p ≤ 2 → one_if b ≤ entries_of m n → entries_of m' n + one_if b ≡ entries_of m n + p * one_if b
+          → cond (eqb p 0 && b) 0 (one_if b + since_ending n log) ≡ 0
       go zero true h a e = refl
       go zero false h a e = let s = old (omega arith) in omega arith
       go (suc zero) true h a e = absurd (let f : ⊥ = omega arith in f)
@@ -71,33 +71,33 @@ module _ (m m' : Machine) (t : List ℕ) (w x : ℕ) (log : List Event) (i : Inv
       go (suc (suc zero)) false h a e = let s = old (omega arith) in omega arith
       go (suc (suc (suc p))) b h a e = absurd (let f : ⊥ = omega arith in f)
 
-  others : (n : List ℕ) (p : ℕ) → p ≤ 2 → oneIf (same t n) ≤ entriesOf m n → entriesOf m' n + oneIf (same t n) ≡ entriesOf m n + p * oneIf (same t n)
-      → tally (load_of n) log ≡ 0 → entriesOf m' n ≡ 0
+  others : (n : List ℕ) (p : ℕ) → p ≤ 2 → one_if (same t n) ≤ entries_of m n → entries_of m' n + one_if (same t n) ≡ entries_of m n + p * one_if (same t n)
+      → tally (load_of n) log ≡ 0 → entries_of m' n ≡ 0
   others n zero h a e z = let o = i.account.others n z in omega arith
   others n (suc zero) h a e z = let o = i.account.others n z in omega arith
   others n (suc (suc zero)) h a e z = let o = i.account.others n z in omega arith
   others n (suc (suc (suc p))) h a e z = absurd (let f : ⊥ = omega arith in f)
 
 -- a says that a name is new, b that it is the one loaded next, k how many loads it had
-still-new : (a b : Bool) (k : ℕ) → a ≡ eqb k 0 → (a && not b) ≡ eqb (oneIf b + k) 0
+still-new : (a b : Bool) (k : ℕ) → a ≡ eqb k 0 → (a && not b) ≡ eqb (one_if b + k) 0
 still-new a false k e = and-true a ∙ e ∙ ap (λ (j : ℕ). eqb j 0) (sym (zero-add k))
 still-new true true k e = sym (ne_eqb (1 + k) 0 (λ (z : 1 + k ≡ 0). let f : ⊥ = omega arith in f))
 still-new false true k e = sym (ne_eqb (1 + k) 0 (λ (z : 1 + k ≡ 0). let f : ⊥ = omega arith in f))
 
 after-step : (m : Machine) (o : Outcome) (w : ℕ) (log : List Event) → Invariant m w log → SoundMachine o.machine
-    → Executed m o → Stepped m o → o.writes ≤ 3 → differing (coreAfter m) ≤ differing m.core + o.writes
+    → Executed m o → Stepped m o → o.writes ≤ 3 → differing (core_after m) ≤ differing m.core + o.writes
     → Invariant o.machine (w + o.writes) (Calls.executed (name_of m (front m)) o.pushes o.writes ∷ log)
 after-step m o w log i sound e s three core =
     record {
       sound = sound;
       account = record {
         entries = balanced;
-        counts = λ n. ap (λ (k : ℕ). k + tally (endingOf n) after) (s.agree.counts n) ∙ balanced n;
+        counts = λ n. ap (λ (k : ℕ). k + tally (ending_of n) after) (s.agree.counts n) ∙ balanced n;
         steps = let a = i.account.steps in let b = e.steps in omega arith;
         writes = let a = i.account.writes in omega arith;
         bound = let a = i.account.bound in let b = e.steps in omega arith;
-        cells = let a = i.account.cells in let b : differing o.machine.core ≡ differing (coreAfter m) = ap differing e.core in omega arith;
-        names = λ n. ap (λ (ns : Roster). isNew ns n) e.names ∙ i.account.names n ∙ ap (λ (k : ℕ). eqb k 0) (sym (zero-add (tally (load_of n) log)));
+        cells = let a = i.account.cells in let b : differing o.machine.core ≡ differing (core_after m) = ap differing e.core in omega arith;
+        names = λ n. ap (λ (ns : Roster). is_new ns n) e.names ∙ i.account.names n ∙ ap (λ (k : ℕ). eqb k 0) (sym (zero-add (tally (load_of n) log)));
         idle = λ n. idle m o.machine t w o.writes log i n o.pushes e.pushes (s.had n) (s.entries n);
         others = λ n z. others m o.machine t w o.writes log i n o.pushes e.pushes (s.had n) (s.entries n) (omega arith);
       };
@@ -109,7 +109,7 @@ after-step m o w log i sound e s three core =
     after : List Event
     after = Calls.executed t o.pushes o.writes ∷ log
 
-    balanced : (n : List ℕ) → entriesOf o.machine n + tally (endingOf n) after ≡ tally (load_of n) after + tally (childOf n) after
+    balanced : (n : List ℕ) → entries_of o.machine n + tally (ending_of n) after ≡ tally (load_of n) after + tally (child_of n) after
     balanced n = balance m o.machine t w o.writes log i n o.pushes e.pushes (s.entries n)
 
 -- a load accepted, of the name t
@@ -121,12 +121,12 @@ after-load m t body place o w log i sound l b =
       sound = sound;
       account = record {
         entries = balanced;
-        counts = λ n. ap (λ (k : ℕ). k + tally (endingOf n) after) (b.agree.counts n) ∙ balanced n;
+        counts = λ n. ap (λ (k : ℕ). k + tally (ending_of n) after) (b.agree.counts n) ∙ balanced n;
         steps = let a = i.account.steps in let c = l.steps in omega arith;
         writes = let a = i.account.writes in omega arith;
         bound = let a = i.account.bound in let c = l.steps in let d = l.writes in omega arith;
         cells = let a = i.account.cells in let c = placed-more in omega arith;
-        names = λ n. b.names n ∙ still-new (isNew m.header.names n) (same t n) (tally (load_of n) log) (i.account.names n);
+        names = λ n. b.names n ∙ still-new (is_new m.header.names n) (same t n) (tally (load_of n) log) (i.account.names n);
         idle = λ n z. let a = b.entries n in let c = i.account.idle n (omega arith) in omega arith;
         others = λ n z. let a = b.entries n in let c = i.account.others n (omega arith) in omega arith;
       };
@@ -135,7 +135,7 @@ after-load m t body place o w log i sound l b =
     after : List Event
     after = Calls.loaded t (instructions body) o.writes ∷ log
 
-    balanced : (n : List ℕ) → entriesOf o.machine n + tally (endingOf n) after ≡ tally (load_of n) after + tally (childOf n) after
+    balanced : (n : List ℕ) → entries_of o.machine n + tally (ending_of n) after ≡ tally (load_of n) after + tally (child_of n) after
     balanced n = let a = b.entries n in let c = i.account.entries n in omega arith
 
     placed-more : differing o.machine.core ≤ differing m.core + o.writes
@@ -148,7 +148,7 @@ after-load m t body place o w log i sound l b =
 after-refusal : {m : Machine} {w : ℕ} {log : List Event} → Invariant m w log → Invariant m (w + 0) log
 after-refusal {w} i = rw (add-zero w) i
 
-step_kept : (m : Machine) (w : ℕ) (log : List Event) → Invariant m w log → Invariant (step m).machine (w + (step m).writes) (logStep m log)
+step_kept : (m : Machine) (w : ℕ) (log : List Event) → Invariant m w log → Invariant (step m).machine (w + (step m).writes) (log_step m log)
 step_kept m w log i =
     step-by-cases
     (λ o. SoundMachine o.machine
@@ -162,35 +162,35 @@ step_kept m w log i =
     (step_keeps m i.sound)
 
 steps-kept : (k : ℕ) (m : Machine) (w : ℕ) (log : List Event) → Invariant m w log
-    → Invariant (plays k m).machine (w + (plays k m).writes) (logSteps k m log)
+    → Invariant (plays k m).machine (w + (plays k m).writes) (log_steps k m log)
 steps-kept zero m w log i = after-refusal i
 steps-kept (suc k) m w log i =
-    go (eqb (step m).number 0) (step_kept m w log i) (steps-kept k (step m).machine (w + (step m).writes) (logStep m log) (step_kept m w log i))
+    go (eqb (step m).number 0) (step_kept m w log i) (steps-kept k (step m).machine (w + (step m).writes) (log_step m log) (step_kept m w log i))
   where
-    go : (b : Bool) → Invariant (step m).machine (w + (step m).writes) (logStep m log)
+    go : (b : Bool) → Invariant (step m).machine (w + (step m).writes) (log_step m log)
         → Invariant (plays k (step m).machine).machine (w + (step m).writes + (plays k (step m).machine).writes)
-        (logSteps k (step m).machine (logStep m log))
+        (log_steps k (step m).machine (log_step m log))
         → Invariant (cond b (joined (step m) (plays k (step m).machine)) (step m)).machine
         (w + (cond b (joined (step m) (plays k (step m).machine)) (step m)).writes)
-        (cond b (logSteps k (step m).machine (logStep m log)) (logStep m log))
+        (cond b (log_steps k (step m).machine (log_step m log)) (log_step m log))
     go true i j = rw (← add_assoc w (step m).writes (plays k (step m).machine).writes) j
     go false i j = i
 
 run-kept : (c : Ceiling) (m : Machine) (w : ℕ) (log : List Event) → Invariant m w log
-    → Invariant (run c m).machine (w + (run c m).writes) (logRun c m log)
+    → Invariant (run c m).machine (w + (run c m).writes) (log_run c m log)
 unfolding run
-run-kept c m w log i = go (soundHeader m)
+run-kept c m w log i = go (sound_header m)
   where
     k : ℕ
-    k = ceilingOf c - m.header.steps
+    k = ceiling_of c - m.header.steps
 
     go : (b : Bool) → Invariant (settle (cond (not b) (refusal 9 0) accepted) m (plays k m)).machine
-        (w + (settle (cond (not b) (refusal 9 0) accepted) m (plays k m)).writes) (cond b (logSteps k m log) log)
+        (w + (settle (cond (not b) (refusal 9 0) accepted) m (plays k m)).writes) (cond b (log_steps k m log) log)
     go true = steps-kept k m w log i
     go false = after-refusal i
 
 load_kept : (name body : List ℕ) (origin place : ℕ) (m : Machine) (w : ℕ) (log : List Event) → Invariant m w log
-    → Invariant (load m name body origin place).machine (w + (load m name body origin place).writes) (logCall (Load name body origin place) m log)
+    → Invariant (load m name body origin place).machine (w + (load m name body origin place).writes) (log_call (Load name body origin place) m log)
 load_kept name body origin place m w log i =
     load-by-cases m name body origin place
     (λ o. SoundMachine o.machine
@@ -205,7 +205,7 @@ load_kept name body origin place m w log i =
 
 -- any list of calls
 call_kept : (c : Call) (m : Machine) (w : ℕ) (log : List Event) → Invariant m w log
-    → Invariant (outcome c m).machine (w + (outcome c m).writes) (logCall c m log)
+    → Invariant (outcome c m).machine (w + (outcome c m).writes) (log_call c m log)
 call_kept (Load name body origin place) m w log i = load_kept name body origin place m w log i
 call_kept Step m w log i = step_kept m w log i
 call_kept (Run c) m w log i = run-kept c m w log i
@@ -214,10 +214,10 @@ calls-kept : (cs : List Call) (m : Machine) (w : ℕ) (log : List Event) → Inv
 calls-kept [] m w log i = after-refusal i
 calls-kept (c ∷ cs) m w log i =
     rw (← add_assoc w (outcome c m).writes (reported outcome cs (outcome c m).machine))
-    (calls-kept cs (outcome c m).machine (w + (outcome c m).writes) (logCall c m log) (call_kept c m w log i))
+    (calls-kept cs (outcome c m).machine (w + (outcome c m).writes) (log_call c m log) (call_kept c m w log i))
 
 -- the machine just made
-fresh-account : (rules : Rules) (core queue : List ℕ) → Account (freshMachine rules core queue) 0 []
+fresh-account : (rules : Rules) (core queue : List ℕ) → Account (fresh_machine rules core queue) 0 []
 unfolding entries
 fresh-account rules core queue =
     record {
@@ -234,8 +234,8 @@ fresh-account rules core queue =
 
 -- DEMAND 3
 pub account : EveryAccount
-account rules core queue ok ownCore ownQueue a b calls =
-    rw (fresh-lengths rules core queue ownCore ownQueue a b ok, ← same.machine, ← same.writes, ← same.log [])
+account rules core queue ok own_core own_queue a b calls =
+    rw (fresh-lengths rules core queue own_core own_queue a b ok, ← same.machine, ← same.writes, ← same.log [])
     (rw (zero-add _) at (calls-kept (spread calls m) m 0 [] start).account)
   where
     m : Machine

@@ -15,11 +15,11 @@ use Rattle.machine.proofs.Soundness.{header-sound}
 use Rattle.machine.proofs.SoundMachine.{SoundMachine, fresh-sound, load-keeps, step_keeps, run-keeps-sound}
 use Rattle.machine.proofs.NotNine.{load-not-nine, step-not-nine, run-not-nine, read_done}
 use Rattle.match_format.specs.Faults.{fault}
-use Rattle.match_file.specs.Reading.{warriorsIn}
+use Rattle.match_file.specs.Reading.{warriors_in}
 use Rattle.match_file.proofs.Refusal.{thirteen}
-use Rattle.match_load.specs.Loading.{loadWarrior, loads, matchChecks}
+use Rattle.match_load.specs.Loading.{load_warrior, loads, match_checks}
 use Rattle.account.specs.Calls.{Call, Load, Step, Run, outcome, left}
-use Rattle.account.specs.Lists.{Listed, One, LoadMatch, outcomeOf, loadCall, spread}
+use Rattle.account.specs.Lists.{Listed, One, LoadMatch, outcome_of, load_call, spread}
 use Rattle.account.specs.Endings.{reached, NeverNine, ReadingDone}
 use Rattle.account.proofs.Spread.{match-by-cases, spreads}
 
@@ -40,26 +40,26 @@ call-not-nine (Run c) m s = run-not-nine c m s
 loads-not-nine : (f : List ℕ) (k n : ℕ) (m : Machine) → SoundMachine m → (loads f k n m).outcome.number ≡ 9 → ⊥
 loads-not-nine f k zero m s = other tt
 loads-not-nine f k (suc n) m s =
-    go (eqb (loadWarrior f k m).number 0) refl (call-not-nine (loadCall f k) m s)
-    (loads-not-nine f (k + 1) n (loadWarrior f k m).machine (call-sound (loadCall f k) m s))
+    go (eqb (load_warrior f k m).number 0) refl (call-not-nine (load_call f k) m s)
+    (loads-not-nine f (k + 1) n (load_warrior f k m).machine (call-sound (load_call f k) m s))
   where
-    go : (b : Bool) → eqb (loadWarrior f k m).number 0 ≡ b → ((loadWarrior f k m).number ≡ 9 → ⊥)
-        → ((loads f (k + 1) n (loadWarrior f k m).machine).outcome.number ≡ 9 → ⊥) → (loads f k (suc n) m).outcome.number ≡ 9 → ⊥
+    go : (b : Bool) → eqb (load_warrior f k m).number 0 ≡ b → ((load_warrior f k m).number ≡ 9 → ⊥)
+        → ((loads f (k + 1) n (load_warrior f k m).machine).outcome.number ≡ 9 → ⊥) → (loads f k (suc n) m).outcome.number ≡ 9 → ⊥
     go true z x y = rw z y
     go false z x y = rw z x
 
-match-without-nine : (f : List ℕ) (m : Machine) → SoundMachine m → Without 9 (matchChecks m f)
+match-without-nine : (f : List ℕ) (m : Machine) → SoundMachine m → Without 9 (match_checks m f)
 match-without-nine f m s =
     inl (ap not (header-sound m s.header))
     and λ a. inr (other (rw (thirteen (fault f)) tt))
     and λ b. inr (other tt)
     and λ c. tt
 
-listed-not-nine : (x : Listed) (m : Machine) → SoundMachine m → (outcomeOf x m).number ≡ 9 → ⊥
+listed-not-nine : (x : Listed) (m : Machine) → SoundMachine m → (outcome_of x m).number ≡ 9 → ⊥
 listed-not-nine (One c) m s = call-not-nine c m s
 listed-not-nine (LoadMatch f) m s =
-    match-by-cases f m (λ cs l. l.outcome.number ≡ 9 → ⊥) (λ n v e. without 9 (matchChecks m f) (match-without-nine f m s) n v e)
-    (λ e. loads-not-nine f 0 (warriorsIn f) m s)
+    match-by-cases f m (λ cs l. l.outcome.number ≡ 9 → ⊥) (λ n v e. without 9 (match_checks m f) (match-without-nine f m s) n v e)
+    (λ e. loads-not-nine f 0 (warriors_in f) m s)
 
 pub always-sound : (rules : Rules) (core queue : List ℕ) → (fresh rules core queue).number ≡ 0 → (calls : List Listed)
     → SoundMachine (reached rules core queue calls)
@@ -67,9 +67,9 @@ always-sound rules core queue ok calls =
     let m = (fresh rules core queue).machine in
     subst SoundMachine (spreads calls m).machine (calls-sound (spread calls m) m (fresh-sound rules core queue ok))
 
-pub never-nine : NeverNine
-never-nine rules core queue ok calls c = listed-not-nine c (reached rules core queue calls) (always-sound rules core queue ok calls)
+pub never_nine : NeverNine
+never_nine rules core queue ok calls c = listed-not-nine c (reached rules core queue calls) (always-sound rules core queue ok calls)
 
 -- and every cell reading is answered 0
-pub reading-done : ReadingDone
-reading-done rules core queue ok calls z = read_done (reached rules core queue calls) (always-sound rules core queue ok calls) z
+pub reading_done : ReadingDone
+reading_done rules core queue ok calls z = read_done (reached rules core queue calls) (always-sound rules core queue ok calls) z

@@ -6,10 +6,10 @@ use Rattle.metadata.specs.Metadata.{called}
 use Rattle.machine.specs.declared.Ceiling.{Ceiling}
 use Rattle.machine.specs.State.{Machine, Outcome}
 use Rattle.machine.specs.Queue.{front, name_of}
-use Rattle.machine.specs.Soundness.{soundHeader}
+use Rattle.machine.specs.Soundness.{sound_header}
 use Rattle.machine.specs.Load.{load}
 use Rattle.machine.specs.Step.{step, executes}
-use Rattle.machine.specs.Run.{ceilingOf, run}
+use Rattle.machine.specs.Run.{ceiling_of, run}
 
 -- a single call with its arguments
 pub data Call : Type 0 where
@@ -39,27 +39,27 @@ pub data Event : Type 0 where
   executed : (name : List ℕ) (pushes writes : ℕ) → Event
 
 -- an accepted call is one it answers 0
-abbrev pub logIf : Outcome → Event → List Event → List Event
-logIf o x log = cond (eqb o.number 0) (x ∷ log) log
+abbrev pub log_if : Outcome → Event → List Event → List Event
+log_if o x log = cond (eqb o.number 0) (x ∷ log) log
 
 -- a step to which it answers 0, 11 or 12 executes one instruction of the popped entry's name
-abbrev pub logStep : Machine → List Event → List Event
-logStep m log = let o = step m in cond (executes o.number) (executed (name_of m (front m)) o.pushes o.writes ∷ log) log
+abbrev pub log_step : Machine → List Event → List Event
+log_step m log = let o = step m in cond (executes o.number) (executed (name_of m (front m)) o.pushes o.writes ∷ log) log
 
 -- in a run too: up to k steps, up to the first answer not 0
-abbrev pub logSteps : ℕ → Machine → List Event → List Event
-logSteps zero m log = log
-logSteps (suc k) m log = let more = logSteps k (step m).machine (logStep m log) in cond (eqb (step m).number 0) more (logStep m log)
+abbrev pub log_steps : ℕ → Machine → List Event → List Event
+log_steps zero m log = log
+log_steps (suc k) m log = let more = log_steps k (step m).machine (log_step m log) in cond (eqb (step m).number 0) more (log_step m log)
 
-abbrev pub logRun : Ceiling → Machine → List Event → List Event
-logRun ceiling m log = cond (soundHeader m) (logSteps (ceilingOf ceiling - m.header.steps) m log) log
+abbrev pub log_run : Ceiling → Machine → List Event → List Event
+log_run ceiling m log = cond (sound_header m) (log_steps (ceiling_of ceiling - m.header.steps) m log) log
 
-abbrev pub logCall : Call → Machine → List Event → List Event
-logCall (Load name body origin place) m log =
-    let o = load m name body origin place in logIf o (loaded (called name) (instructions body) o.writes) log
-logCall Step m log = logStep m log
-logCall (Run ceiling) m log = logRun ceiling m log
+abbrev pub log_call : Call → Machine → List Event → List Event
+log_call (Load name body origin place) m log =
+    let o = load m name body origin place in log_if o (loaded (called name) (instructions body) o.writes) log
+log_call Step m log = log_step m log
+log_call (Run ceiling) m log = log_run ceiling m log
 
 abbrev pub logged : List Call → Machine → List Event → List Event
 logged [] m log = log
-logged (c ∷ cs) m log = logged cs (outcome c m).machine (logCall c m log)
+logged (c ∷ cs) m log = logged cs (outcome c m).machine (log_call c m log)

@@ -14,17 +14,17 @@ use Rattle.laws.proofs.Modulo.{mod-small, mod-wrap}
 use Rattle.laws.proofs.Tests.{both, and-true}
 use Rattle.offset.specs.Offset.{ahead}
 use Rattle.types.specs.Types.{Field}
-use Rattle.cell.specs.Cells.{packed, unpacked, soundWord, number, with_number}
+use Rattle.cell.specs.Cells.{packed, unpacked, sound_word, number, with_number}
 use Rattle.machine.specs.declared.Rules.{Rules}
 use Rattle.machine.specs.Pointers as machine
-use Rattle.machine.specs.Pointers.{here, through, Shift, keeps, lowers, raises, reaches, shifts, field_of, less, more, changed, before, siteAt}
+use Rattle.machine.specs.Pointers.{here, through, Shift, keeps, lowers, raises, reaches, shifts, field_of, less, more, changed, before, site_at}
 use Rattle.machine.specs.Whole.{used, former}
-use Rattle.address.specs.Rounding.{decremented, incremented, fieldThrough, aimed}
-use Rattle.address.specs.inner.Operands.{soundSeen, Ready}
+use Rattle.address.specs.Rounding.{decremented, incremented, field_through, aimed}
+use Rattle.address.specs.Inner.Operands.{sound_seen, Ready}
 use Rattle.word.proofs.Cells.{ahead-below, whole, number-below, with-sound}
 
 -- the modes by range
-pub goes_through : (mode : ℕ) → 2 ≤ mode → mode < 8 → get_or reaches mode here ≡ through (fieldThrough mode)
+pub goes_through : (mode : ℕ) → 2 ≤ mode → mode < 8 → get_or reaches mode here ≡ through (field_through mode)
 goes_through mode l h = span mode 2 6 l h (λ e. rw e, (λ e. rw e, (λ e. rw e, (λ e. rw e, (λ e. rw e, (λ e. rw e, tt))))))
 
 pub shift-keeps : (mode : ℕ) → mode < 4 → get_or shifts mode keeps ≡ keeps
@@ -75,13 +75,13 @@ on-set P (x ∷ xs) (suc i) zero v d p q = q
 on-set P (x ∷ xs) (suc i) (suc j) v d p q = on-set P xs i j v d p q
 
 -- a cell is sound after a sound one was stored over a sound one, just where it was
-pub still-sound : (size : ℕ) (core : List ℕ) (i j v : ℕ) → i < length core → soundWord size (get_or core i 0) ≡ true → soundWord size v ≡ true
-    → soundWord size (get_or (set core i v) j 0) ≡ soundWord size (get_or core j 0)
+pub still-sound : (size : ℕ) (core : List ℕ) (i j v : ℕ) → i < length core → sound_word size (get_or core i 0) ≡ true → sound_word size v ≡ true
+    → sound_word size (get_or (set core i v) j 0) ≡ sound_word size (get_or core j 0)
 still-sound size core i j v l s h = at (eqb j i) refl
   where
-    at : (t : Bool) → eqb j i ≡ t → soundWord size (get_or (set core i v) j 0) ≡ soundWord size (get_or core j 0)
+    at : (t : Bool) → eqb j i ≡ t → sound_word size (get_or (set core i v) j 0) ≡ sound_word size (get_or core j 0)
     at true e = rw (eqb-true j i e, get_or-set_same core i v 0 l) (h ∙ sym s)
-    at false e = ap (soundWord size) (get_or-set_other core i j v 0 (eqb-false j i e))
+    at false e = ap (sound_word size) (get_or-set_other core i j v 0 (eqb-false j i e))
 
 -- the word at a place of the core with that word at that location
 pub word_of : (core : List ℕ) (place location word : ℕ) → location < length core → cond (eqb place location) word (get_or core place 0) ≡ get_or (set core location word) place 0
@@ -91,18 +91,18 @@ word_of core place location word l = by (eqb place location) refl
     by true e = rw (eqb-true place location e) (sym (get_or-set_same core location word 0 l))
     by false e = sym (get_or-set_other core location place word 0 (eqb-false place location e))
 
-stored-sound : (size : ℕ) (core : List ℕ) (i j v : ℕ) → i < length core → (soundWord size (get_or core i 0) ≡ true → soundWord size v ≡ true)
-    → (soundWord size (get_or core i 0) && soundWord size (get_or (set core i v) j 0)) ≡ (soundWord size (get_or core i 0) && soundWord size (get_or core j 0))
-stored-sound size core i j v l h = by (soundWord size (get_or core i 0)) refl
+stored-sound : (size : ℕ) (core : List ℕ) (i j v : ℕ) → i < length core → (sound_word size (get_or core i 0) ≡ true → sound_word size v ≡ true)
+    → (sound_word size (get_or core i 0) && sound_word size (get_or (set core i v) j 0)) ≡ (sound_word size (get_or core i 0) && sound_word size (get_or core j 0))
+stored-sound size core i j v l h = by (sound_word size (get_or core i 0)) refl
   where
-    by : (t : Bool) → soundWord size (get_or core i 0) ≡ t → (t && soundWord size (get_or (set core i v) j 0)) ≡ (t && soundWord size (get_or core j 0))
+    by : (t : Bool) → sound_word size (get_or core i 0) ≡ t → (t && sound_word size (get_or (set core i v) j 0)) ≡ (t && sound_word size (get_or core j 0))
     by true s = still-sound size core i j v l s (h s)
     by false s = refl
 
 -- the decrement changes no verdict on the cells read
 look : (size : ℕ) (core : List ℕ) (t : Shift) (i j : ℕ) (f : Field) → size ≤ 46341 → length core ≡ size → i < size
-    → (soundWord size (get_or core i 0) && soundWord size (get_or (before t size core i f (number f (unpacked (get_or core i 0)))) j 0))
-    ≡ (soundWord size (get_or core i 0) && soundWord size (get_or core j 0))
+    → (sound_word size (get_or core i 0) && sound_word size (get_or (before t size core i f (number f (unpacked (get_or core i 0)))) j 0))
+    ≡ (sound_word size (get_or core i 0) && sound_word size (get_or core j 0))
 look size core keeps i j f l e h = refl
 look size core lowers i j f l e h =
     stored-sound size core i j _ (rw e h) (λ s. with-sound f size (get_or core i 0) _ l s (ahead-below _ _ h))
@@ -113,7 +113,7 @@ module _ (rules : Rules) (core : List ℕ) (pc mode n : ℕ) where
   size = rules.size
 
   abbrev its : machine.Operand
-  its = former (siteAt rules pc) core mode n
+  its = former (site_at rules pc) core mode n
 
   -- an operand that reads sound cells: its pointer and register, and the core after it
   pub record Points (pointer register : ℕ) (l : List ℕ) : Type 0 where
@@ -122,12 +122,12 @@ module _ (rules : Rules) (core : List ℕ) (pc mode n : ℕ) where
     pub leaves : l ≡ its.core
 
   pub sound-is : Ready rules core pc n → (pointer : ℕ) → its.read ≡ pointer
-      → soundSeen size its ≡ (soundWord size (get_or core (ahead size pc n) 0) && soundWord size (get_or core pointer 0))
+      → sound_seen size its ≡ (sound_word size (get_or core (ahead size pc n) 0) && sound_word size (get_or core pointer 0))
   unfolding former
   sound-is k p e =
-      ap (λ (t : Bool). soundWord size (get_or core (ahead size pc n) 0) && t) (and-true _)
+      ap (λ (t : Bool). sound_word size (get_or core (ahead size pc n) 0) && t) (and-true _)
       ∙ look size core (get_or shifts mode keeps) (ahead size pc n) _ (field_of (get_or reaches mode here)) k.valid k.cells (ahead-below pc n k.place)
-      ∙ ap (λ (j : ℕ). soundWord size (get_or core (ahead size pc n) 0) && soundWord size (get_or core j 0)) e
+      ∙ ap (λ (j : ℕ). sound_word size (get_or core (ahead size pc n) 0) && sound_word size (get_or core j 0)) e
 
   abbrev field : Field
   field = field_of (get_or reaches mode here)
@@ -170,17 +170,17 @@ module _ (rules : Rules) (core : List ℕ) (pc mode n : ℕ) where
   at-location e = rw e
 
   -- a register that is the cell at the pointer
-  plainly : {pointer : ℕ} → its.read ≡ pointer → soundWord size (get_or core pointer 0) ≡ true → its.register ≡ unpacked (get_or core its.read 0)
+  plainly : {pointer : ℕ} → its.read ≡ pointer → sound_word size (get_or core pointer 0) ≡ true → its.register ≡ unpacked (get_or core its.read 0)
       → get_or core pointer 0 ≡ packed its.register
   plainly {pointer} e s er = sym (ap packed (er ∙ ap (λ (j : ℕ). unpacked (get_or core j 0)) e) ∙ whole size (get_or core pointer 0) s)
 
-  pub hash : soundWord size (get_or core pc 0) ≡ true → mode ≡ 0 → Points pc (get_or core pc 0) core
+  pub hash : sound_word size (get_or core pc 0) ≡ true → mode ≡ 0 → Points pc (get_or core pc 0) core
   hash s e = record { reads = at-pc e; copies = plainly (at-pc e) s (register-keeps shift); leaves = core-keeps shift }
     where
       shift : get_or shifts mode keeps ≡ keeps
       shift = rw e
 
-  module _ (location : ℕ) (is : location ≡ ahead size pc n) (h : soundWord size (get_or core location 0) ≡ true) where
+  module _ (location : ℕ) (is : location ≡ ahead size pc n) (h : sound_word size (get_or core location 0) ≡ true) where
     pub dollar : mode ≡ 1 → Points location (get_or core location 0) core
     dollar e = record { reads = there-is; copies = plainly there-is h (register-keeps shift); leaves = core-keeps shift }
       where
@@ -190,13 +190,13 @@ module _ (rules : Rules) (core : List ℕ) (pc mode n : ℕ) where
         there-is : its.read ≡ location
         there-is = at-location e ∙ sym is
 
-    module _ (two : 2 ≤ mode) (eight : mode < 8) (seen to pointer : ℕ) (es : seen ≡ number (fieldThrough mode) (unpacked (get_or core location 0)))
+    module _ (two : 2 ≤ mode) (eight : mode < 8) (seen to pointer : ℕ) (es : seen ≡ number (field_through mode) (unpacked (get_or core location 0)))
         (et : to ≡ aimed (get_or shifts mode keeps) size seen) (ep : pointer ≡ ahead size location to) where
       seen-is : seen ≡ found
       seen-is = es ∙ rw (is, goes_through mode two eight)
 
       seen_below : seen < size
-      seen_below = rw es (number-below (fieldThrough mode) size (get_or core location 0) h)
+      seen_below = rw es (number-below (field_through mode) size (get_or core location 0) h)
 
       uses : to ≡ used (get_or shifts mode keeps) size seen
       uses = et ∙ is-used (get_or shifts mode keeps) size seen seen_below
@@ -205,14 +205,14 @@ module _ (rules : Rules) (core : List ℕ) (pc mode n : ℕ) where
       unfolding former
       points = rw (ep, uses, seen-is, is, goes_through mode two eight)
 
-      module _ (s : soundWord size (get_or core pointer 0) ≡ true) where
+      module _ (s : sound_word size (get_or core pointer 0) ≡ true) where
         pub plain : mode < 4 → Points pointer (get_or core pointer 0) core
         plain l =
             let t = shift-keeps mode l in
             record { reads = points; copies = plainly points s (register-keeps t); leaves = core-keeps t }
 
         module _ (l : List ℕ) (word : ℕ) (el : l ≡ set core location word) where
-          pub lower : size ≤ 46341 → 4 ≤ mode → mode < 6 → word ≡ packed (with_number (fieldThrough mode) to (unpacked (get_or core location 0)))
+          pub lower : size ≤ 46341 → 4 ≤ mode → mode < 6 → word ≡ packed (with_number (field_through mode) to (unpacked (get_or core location 0)))
               → (register : ℕ) → register ≡ get_or (set core location word) pointer 0
               → Points pointer register l
           lower v p q ew register er =
@@ -234,13 +234,13 @@ module _ (rules : Rules) (core : List ℕ) (pc mode n : ℕ) where
               lowered : l ≡ changed core (ahead size pc n) field (less size found)
               lowered = rw (el, ew, to_is, is, goes_through mode two eight)
 
-              sound-there : soundWord size (get_or l pointer 0) ≡ true
+              sound-there : sound_word size (get_or l pointer 0) ≡ true
               sound-there =
                   rw (el, ew)
-                  (on-set (λ (w : ℕ). soundWord size w ≡ true) core location pointer _ 0
-                  (with-sound (fieldThrough mode) size (get_or core location 0) to v h (rw to_is (ahead-below _ _ seen_below))) s)
+                  (on-set (λ (w : ℕ). sound_word size w ≡ true) core location pointer _ 0
+                  (with-sound (field_through mode) size (get_or core location 0) to v h (rw to_is (ahead-below _ _ seen_below))) s)
 
-          pub raise : 6 ≤ mode → (up : ℕ) → up ≡ incremented size seen → word ≡ packed (with_number (fieldThrough mode) up (unpacked (get_or core location 0)))
+          pub raise : 6 ≤ mode → (up : ℕ) → up ≡ incremented size seen → word ≡ packed (with_number (field_through mode) up (unpacked (get_or core location 0)))
               → (register : ℕ) → register ≡ get_or core pointer 0
               → Points pointer register l
           raise p up eu ew register er =
@@ -253,10 +253,10 @@ module _ (rules : Rules) (core : List ℕ) (pc mode n : ℕ) where
               raised = rw (el, ew, eu ∙ is-more size seen seen_below, seen-is, is, goes_through mode two eight)
 
   -- the cell at the location is sound
-  pub read-sound : soundSeen size its ≡ true → soundWord size (get_or core (ahead size pc n) 0) ≡ true
+  pub read-sound : sound_seen size its ≡ true → sound_word size (get_or core (ahead size pc n) 0) ≡ true
   unfolding former
   read-sound e = (both _ _ e).0
 
   -- so is the one at the pointer
-  pub pointer-sound : Ready rules core pc n → soundSeen size its ≡ true → soundWord size (get_or core its.read 0) ≡ true
-  pointer-sound k e = (both (soundWord size (get_or core (ahead size pc n) 0)) (soundWord size (get_or core its.read 0)) (sym (sound-is k _ refl) ∙ e)).1
+  pub pointer-sound : Ready rules core pc n → sound_seen size its ≡ true → sound_word size (get_or core its.read 0) ≡ true
+  pointer-sound k e = (both (sound_word size (get_or core (ahead size pc n) 0)) (sound_word size (get_or core its.read 0)) (sym (sound-is k _ refl) ∙ e)).1

@@ -12,8 +12,8 @@ abbrev pub incremented : ℕ → ℕ → ℕ
 incremented size n = cond (ltb (n + 1) size) (n + 1) 0
 
 -- the field that an indirect mode goes through: A for an even mode, B for an odd one
-abbrev pub fieldThrough : ℕ → Field
-fieldThrough mode = cond (eqb (mode % 2) 0) A B
+abbrev pub field_through : ℕ → Field
+field_through mode = cond (eqb (mode % 2) 0) A B
 
 -- the number that the pointer is made of: `used` for a number below the size
 abbrev pub aimed : Shift → ℕ → ℕ → ℕ

@@ -3,8 +3,8 @@
 
 ghost use Rattle.std.specs.Prelude.{◌≡◌, cond, eqb, get_or};
 ghost use Rattle.machine.specs.Pointers as spec;
-ghost use Rattle.types.specs.Types.{firstBit};
-ghost use Rattle.address.specs.Rounding.{decremented, incremented, fieldThrough, aimed};
+ghost use Rattle.types.specs.Types.{first_bit};
+ghost use Rattle.address.specs.Rounding.{decremented, incremented, field_through, aimed};
 
 use offset::{Absolute, Relative};
 use types::field::{A, B};
@@ -39,7 +39,7 @@ pub fn increment(n: Relative, size: u32) -> Relative
 
 // The first bit of the field that an indirect mode goes through.
 pub fn field_of(mode: u64) -> u64
-    ensures { result ≡ firstBit (fieldThrough mode) }
+    ensures { result ≡ first_bit (field_through mode) }
 {
     if mode % 2 == 0 {
         return A;

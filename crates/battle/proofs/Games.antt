@@ -2,7 +2,7 @@
 -- Assumes nothing.
 use mathlib.Core.Path.{◌≡◌, refl}
 use mathlib.Core.List.{map}
-use Rattle.battle.specs.inner.Games.{Row, games}
+use Rattle.battle.specs.Inner.Games.{Row, games}
 
 pub games-print : map (λ (r : Row). r.got) games ≡ map (λ (r : Row). r.wanted) games
 unfolding games

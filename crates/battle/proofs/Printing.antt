@@ -11,10 +11,10 @@ use Rattle.answer.specs.declared.Answer.{Answer}
 use Rattle.answer.specs.Numbers.{told}
 use Rattle.machine.specs.declared.Header.{Header}
 use Rattle.battle.specs.Match.{Result, result}
-use Rattle.printing.specs.Text.{refusalText, runText, runTextIf, Puts}
+use Rattle.printing.specs.Text.{refusal_text, run_text, run_text_if, Puts}
 use Rattle.printing.proofs.Puts.{from-the-start}
 use Rattle.battle.specs.Text.{text, printed}
-use Rattle.battle.specs.inner.Given.{result_of}
+use Rattle.battle.specs.Inner.Given.{result_of}
 
 module _ (f : List ℕ) (answer : Answer) (steps writes : ℕ) (h : Header) (ran : Bool) (is : result_of ran answer steps writes h ≡ result f) where
   -- the memory and the length afterwards
@@ -26,9 +26,9 @@ module _ (f : List ℕ) (answer : Answer) (steps writes : ℕ) (h : Header) (ran
   prints {l = l} {m = m} {q = q} b e a =
       from-the-start (subst (λ (r : Result). Puts l m 0 q (text r)) (ap (λ (b : Bool). result_of b answer steps writes h) (sym e) ∙ is) a)
 
-  pub prints-run : {l m : List ℕ} {q : ℕ} → h.names.held ≤ 16 → ran ≡ true → Puts l m 0 q (runTextIf (told answer).number steps writes h) → Prints l m q
+  pub prints-run : {l m : List ℕ} {q : ℕ} → h.names.held ≤ 16 → ran ≡ true → Puts l m 0 q (run_text_if (told answer).number steps writes h) → Prints l m q
   prints-run {l = l} {m = m} {q = q} few e a =
-      prints true e (subst (λ (b : Bool). Puts l m 0 q (cond b (runText (told answer).number steps writes h) [])) (le-leb h.names.held 16 few) a)
+      prints true e (subst (λ (b : Bool). Puts l m 0 q (cond b (run_text (told answer).number steps writes h) [])) (le-leb h.names.held 16 few) a)
 
-  pub prints-refusal : {l m : List ℕ} {q : ℕ} → ran ≡ false → Puts l m 0 q (refusalText (told answer)) → Prints l m q
+  pub prints-refusal : {l m : List ℕ} {q : ℕ} → ran ≡ false → Puts l m 0 q (refusal_text (told answer)) → Prints l m q
   prints-refusal e a = prints false e a

@@ -1,3 +1,3 @@
-pub mod inner
+pub mod Inner
 pub mod Match
 pub mod Text

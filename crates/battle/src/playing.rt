@@ -2,7 +2,7 @@
 ghost use Rattle.std.specs.Prelude.{◌≡◌, true, false, ◌≤◌, length};
 ghost use Rattle.machine.specs.Fresh as begins;
 ghost use Rattle.battle.specs.Match as spec;
-ghost use Rattle.battle.specs.inner.Given.{result_of};
+ghost use Rattle.battle.specs.Inner.Given.{result_of};
 
 use answer::{Answer, number};
 use cycle::run;
@@ -38,7 +38,7 @@ fn refuse(answer: Answer, header: Header) -> Played
 // The warriors of a file are loaded into a core of its size, and run with no ceiling given.
 fn play_loaded(file: &[u8], rules: Rules, core: &mut [u64], queue: &mut [u64]) -> Played
     ensures { (result_of result.ran result.answer result.steps result.writes result.header
-        ≡ spec.afterFresh file.now (begins.fresh rules core.old queue.old))
+        ≡ spec.after_fresh file.now (begins.fresh rules core.old queue.old))
         × (result.ran ≡ true → result.header.names.held ≤ 16) }
 {
     let f = fresh(rules, core, queue);

@@ -8,15 +8,15 @@ use lib.Dec.{eqb, leb, ltb}
 use borrow.Author.Tests.{eqb-true, leb-true, ltb-true, eq-eqb, le-leb, lt-ltb}
 use Rattle.laws.proofs.Tests.{both, iff, never}
 use Rattle.cell.specs.declared.Cell.{Cell}
-use Rattle.cell.specs.Cells.{packed, unpacked, legal, soundWord}
+use Rattle.cell.specs.Cells.{packed, unpacked, legal, sound_word}
 use Rattle.cell.proofs.Words.{InRange, unpack-pack}
 
 -- a sound cell
 pub record Sound (size : ℕ) (c : Cell) : Type 0 where
   pub opcode : c.opcode ≤ 18
   pub modifier : c.modifier ≤ 6
-  pub a-mode : c.a_mode < 8
-  pub b-mode : c.b_mode < 8
+  pub a_mode : c.a_mode < 8
+  pub b_mode : c.b_mode < 8
   pub a : c.a.0 < size
   pub b : c.b.0 < size
 
@@ -28,8 +28,8 @@ legal-fields size w e =
     record {
       opcode = leb-true _ _ r.0;
       modifier = leb-true _ _ r.1;
-      a-mode = omega arith;
-      b-mode = omega arith;
+      a_mode = omega arith;
+      b_mode = omega arith;
       a = ltb-true _ _ q.1;
       b = ltb-true _ _ p.1;
     }
@@ -37,8 +37,8 @@ legal-fields size w e =
 pub fields-legal : (size : ℕ) (c : Cell) → Sound size c → legal size c ≡ true
 fields-legal size c h = simp (le-leb _ _ h.opcode, le-leb _ _ h.modifier, lt-ltb _ _ h.a, lt-ltb _ _ h.b)
 
-pub sound-fields : (size w : ℕ) → soundWord size w ≡ true → (w < 2 ^ 46) × Sound size (unpacked w)
-unfolding soundWord
+pub sound-fields : (size w : ℕ) → sound_word size w ≡ true → (w < 2 ^ 46) × Sound size (unpacked w)
+unfolding sound_word
 sound-fields size w e =
     let p = both (legal size (unpacked w)) (eqb (w / 2 ^ 46) 0) e in
     (top (eqb-true (w / 2 ^ 46) 0 p.1), legal-fields size w p.0)
@@ -48,10 +48,10 @@ sound-fields size w e =
 
 -- its fields are in range
 pub in-range : {size : ℕ} (c : Cell) → size ≤ 65536 → Sound size c → InRange c
-in-range c l h = record { opcode = omega arith; modifier = omega arith; a-mode = h.a-mode; b-mode = h.b-mode; a = omega arith; b = omega arith }
+in-range c l h = record { opcode = omega arith; modifier = omega arith; a_mode = h.a_mode; b_mode = h.b_mode; a = omega arith; b = omega arith }
 
-pub fields-sound : (size : ℕ) (c : Cell) → size ≤ 65536 → Sound size c → soundWord size (packed c) ≡ true
-unfolding soundWord
+pub fields-sound : (size : ℕ) (c : Cell) → size ≤ 65536 → Sound size c → sound_word size (packed c) ≡ true
+unfolding sound_word
 fields-sound size c l h =
     ap (λ (d : Cell). legal size d && eqb (packed c / 2 ^ 46) 0) (unpack-pack c (in-range c l h))
     ∙ simp (fields-legal size c h, eq-eqb (packed c / 2 ^ 46) 0 (top c))
@@ -60,22 +60,22 @@ fields-sound size c l h =
     top c = omega arith
 
 -- a word whose B number, whose two numbers or whose modifier are too large is not sound
-pub over-b : (size w : ℕ) → size ≤ w % 2 ^ 16 → false ≡ soundWord size w
-over-b size w h = never (soundWord size w) (λ e. let f = (sound-fields size w e).1.b in omega arith)
+pub over-b : (size w : ℕ) → size ≤ w % 2 ^ 16 → false ≡ sound_word size w
+over-b size w h = never (sound_word size w) (λ e. let f = (sound-fields size w e).1.b in omega arith)
 
-pub over-numbers : (size w : ℕ) → size * 65536 ≤ w % 2 ^ 32 → false ≡ soundWord size w
-over-numbers size w h = never (soundWord size w) (λ e. against size w h (sound-fields size w e).1.a)
+pub over-numbers : (size w : ℕ) → size * 65536 ≤ w % 2 ^ 32 → false ≡ sound_word size w
+over-numbers size w h = never (sound_word size w) (λ e. against size w h (sound-fields size w e).1.a)
   where
     against : (size w : ℕ) → size * 65536 ≤ w % 2 ^ 32 → w / 2 ^ 16 % 2 ^ 16 < size → ⊥
     against size w h a = omega arith
 
-pub over-modifier : (size w : ℕ) → 6 < w / 2 ^ 38 % 2 ^ 3 → false ≡ soundWord size w
-over-modifier size w h = never (soundWord size w) (λ e. let f = (sound-fields size w e).1.modifier in omega arith)
+pub over-modifier : (size w : ℕ) → 6 < w / 2 ^ 38 % 2 ^ 3 → false ≡ sound_word size w
+over-modifier size w h = never (sound_word size w) (λ e. let f = (sound-fields size w e).1.modifier in omega arith)
 
 -- where they are not, its opcode decides, tested with the bits above it
 pub opcode-decides : (size w : ℕ)
-    → w % 2 ^ 16 < size → w % 2 ^ 32 < size * 65536 → w / 2 ^ 38 % 2 ^ 3 ≤ 6 → leb (w / 2 ^ 41) 18 ≡ soundWord size w
-unfolding soundWord
+    → w % 2 ^ 16 < size → w % 2 ^ 32 < size * 65536 → w / 2 ^ 38 % 2 ^ 3 ≤ 6 → leb (w / 2 ^ 41) 18 ≡ sound_word size w
+unfolding sound_word
 opcode-decides size w b numbers modifier =
     iff
     _ _

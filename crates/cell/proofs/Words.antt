@@ -24,18 +24,18 @@ codes w = rw (beside w 5 3 38, beside w 8 3 35, beside w 11 3 32)
 pub record InRange (c : Cell) : Type 0 where
   pub opcode : c.opcode < 32
   pub modifier : c.modifier < 8
-  pub a-mode : c.a_mode < 8
-  pub b-mode : c.b_mode < 8
+  pub a_mode : c.a_mode < 8
+  pub b_mode : c.b_mode < 8
   pub a : c.a.0 < 65536
   pub b : c.b.0 < 65536
 
 -- the cell of a word is in range, and stays so with a number that is
 pub word-range : (w : ℕ) → InRange (unpacked w)
-word-range w = record { opcode = omega arith; modifier = omega arith; a-mode = omega arith; b-mode = omega arith; a = omega arith; b = omega arith }
+word-range w = record { opcode = omega arith; modifier = omega arith; a_mode = omega arith; b_mode = omega arith; a = omega arith; b = omega arith }
 
 pub with-range : (f : Field) (x : ℕ) (c : Cell) → x < 65536 → InRange c → InRange (with_number f x c)
-with-range A x c h r = record { opcode = r.opcode; modifier = r.modifier; a-mode = r.a-mode; b-mode = r.b-mode; a = h; b = r.b }
-with-range B x c h r = record { opcode = r.opcode; modifier = r.modifier; a-mode = r.a-mode; b-mode = r.b-mode; a = r.a; b = h }
+with-range A x c h r = record { opcode = r.opcode; modifier = r.modifier; a_mode = r.a_mode; b_mode = r.b_mode; a = h; b = r.b }
+with-range B x c h r = record { opcode = r.opcode; modifier = r.modifier; a_mode = r.a_mode; b_mode = r.b_mode; a = r.a; b = h }
 
 -- equal field by field
 pub cell-ext : {c d : Cell} → c.opcode ≡ d.opcode → c.modifier ≡ d.modifier → c.a_mode ≡ d.a_mode → c.b_mode ≡ d.b_mode

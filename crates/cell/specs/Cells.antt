@@ -33,8 +33,8 @@ abbrev pub legal : ℕ → Cell → Bool
 legal size c = leb c.opcode STP && leb c.modifier I && ltb c.a.0 size && ltb c.b.0 size
 
 -- a sound cell: other bits zero, too
-unfoldable pub soundWord : ℕ → ℕ → Bool
-soundWord size w = legal size (unpacked w) && eqb (w / 2 ^ 46) 0
+unfoldable pub sound_word : ℕ → ℕ → Bool
+sound_word size w = legal size (unpacked w) && eqb (w / 2 ^ 46) 0
 
 abbrev pub number : Field → Cell → ℕ
 number A c = c.a.0
@@ -47,8 +47,8 @@ with_number B x c =
     record { opcode = c.opcode; modifier = c.modifier; a_mode = c.a_mode; b_mode = c.b_mode; a = c.a; b = relative x }
 
 -- DAT.F $0,$0
-abbrev pub freshCell : ℕ
-freshCell = packed (record { opcode = DAT; modifier = F; a_mode = Direct; b_mode = Direct; a = relative 0; b = relative 0 })
+abbrev pub fresh_cell : ℕ
+fresh_cell = packed (record { opcode = DAT; modifier = F; a_mode = Direct; b_mode = Direct; a = relative 0; b = relative 0 })
 
 -- the cell at a place of the core
 abbrev pub cell_at : List ℕ → ℕ → Cell

@@ -2,7 +2,7 @@
 #![tactic(auto)]
 
 ghost use Rattle.std.specs.Prelude.{◌≡◌};
-ghost use Rattle.cell.specs.Cells.{packed, unpacked, soundWord, freshCell, with_number};
+ghost use Rattle.cell.specs.Cells.{packed, unpacked, sound_word, fresh_cell, with_number};
 ghost use Rattle.types.specs.Types.{Field};
 
 use offset::Relative;
@@ -69,7 +69,7 @@ pub fn with_b(w: u64, b: Relative) -> u64
 
 // Whether a word is sound in a core of that size: the opcode is tested with the bits above it, which are 0, and the A number with the B number.
 pub fn sound(w: u64, size: u32) -> bool
-    ensures { result ≡ soundWord size w }
+    ensures { result ≡ sound_word size w }
 {
     let m = size as u64;
     if w & 0xffff >= m {
@@ -86,7 +86,7 @@ pub fn sound(w: u64, size: u32) -> bool
 
 // The word of a fresh cell.
 pub fn fresh_cell() -> u64
-    ensures { result ≡ freshCell }
+    ensures { result ≡ fresh_cell }
 {
     (F as u64) << 38 | DIRECT << 35 | DIRECT << 32
 }

@@ -13,10 +13,10 @@ use Rattle.offset.proofs.Offsets.{sum_is, ahead-lt}
 use Rattle.types.specs.Types.{Field}
 use Rattle.cell.specs.Cells.{number, cell_at}
 use Rattle.machine.specs.declared.Rules.{Rules}
-use Rattle.machine.specs.Pointers.{Reach, here, there, through, reaches, Shift, keeps, lowers, raises, shifts, field_of, fold, located, pointed, before, after, Site, siteAt, operand}
+use Rattle.machine.specs.Pointers.{Reach, here, there, through, reaches, Shift, keeps, lowers, raises, shifts, field_of, fold, located, pointed, before, after, Site, site_at, operand}
 use Rattle.address.proofs.Pointing.{word_of}
 use Rattle.chain.specs.Operands.{absolute}
-use Rattle.chain.specs.inner.Chains.{Placed, wordBefore, wordAfter, pointerBy, chainsOf}
+use Rattle.chain.specs.Inner.Chains.{Placed, word_before, word_after, pointer_by, chains_of}
 
 -- a sum and a fold, of a core of some cells and a limit that is not 0
 pub ahead-is : {size : ℕ} (a b : ℕ) {r : ℕ} → 0 < size → r ≡ cond (eqb size 0) 0 (ahead size a b) → r ≡ ahead size a b
@@ -38,7 +38,7 @@ module _ (rules : Rules) (core : List ℕ) (pc mode n : ℕ) (p : Placed rules c
   size = rules.size
 
   abbrev s : Site
-  s = siteAt rules pc
+  s = site_at rules pc
 
   abbrev t : Shift
   t = get_or shifts mode keeps
@@ -61,7 +61,7 @@ module _ (rules : Rules) (core : List ℕ) (pc mode n : ℕ) (p : Placed rules c
 
   -- the word that the decrement leaves, and the core with it
   abbrev low : ℕ
-  low = wordBefore t size (get_or core l 0) f
+  low = word_before t size (get_or core l 0) f
 
   abbrev lowered : List ℕ
   lowered = before t size core l f (number f (cell_at core l))
@@ -69,24 +69,24 @@ module _ (rules : Rules) (core : List ℕ) (pc mode n : ℕ) (p : Placed rules c
   lowered_is : lowered ≡ set core l low
   lowered_is = by t
     where
-      by : (t : Shift) → before t size core l f (number f (cell_at core l)) ≡ set core l (wordBefore t size (get_or core l 0) f)
+      by : (t : Shift) → before t size core l f (number f (cell_at core l)) ≡ set core l (word_before t size (get_or core l 0) f)
       by keeps = sym (set-get_or core l 0)
       by lowers = refl
       by raises = sym (set-get_or core l 0)
 
-  pointed-is : (r : Reach) (limit : ℕ) (x : List ℕ) → pointerBy r size limit pc (fold limit size n) (get_or x (located s limit n) 0) ≡ pointed r s limit n x
+  pointed-is : (r : Reach) (limit : ℕ) (x : List ℕ) → pointer_by r size limit pc (fold limit size n) (get_or x (located s limit n) 0) ≡ pointed r s limit n x
   pointed-is here limit x = refl
   pointed-is there limit x = refl
   pointed-is (through f) limit x = refl
 
-  pub reads : pointerBy r size rules.read pc (fold rules.read size n) (get_or (set core l low) k 0) ≡ (operand s core mode n).read
+  pub reads : pointer_by r size rules.read pc (fold rules.read size n) (get_or (set core l low) k 0) ≡ (operand s core mode n).read
   unfolding operand
   reads = pointed-is r rules.read (set core l low) ∙ ap (pointed r s rules.read n) (sym lowered_is)
 
-  pub writes : pointerBy r size rules.write pc (fold rules.write size n) low ≡ (operand s core mode n).write
+  pub writes : pointer_by r size rules.write pc (fold rules.write size n) low ≡ (operand s core mode n).write
   unfolding operand
   writes =
-      ap (pointerBy r size rules.write pc (fold rules.write size n)) (sym (get_or-set_same core l low 0 l-below))
+      ap (pointer_by r size rules.write pc (fold rules.write size n)) (sym (get_or-set_same core l low 0 l-below))
       ∙ pointed-is r rules.write (set core l low) ∙ ap (pointed r s rules.write n) (sym lowered_is)
 
   near-is : get_or core k 0 ≡ get_or (operand s core mode n).seen 0 0
@@ -105,11 +105,11 @@ module _ (rules : Rules) (core : List ℕ) (pc mode n : ℕ) (p : Placed rules c
   unfolding operand
   there-is = ap (λ (x : List ℕ). get_or x (operand s core mode n).write 0) (sym lowered_is)
 
-  left_is : wordAfter t size low f ≡ get_or (operand s core mode n).core l 0
+  left_is : word_after t size low f ≡ get_or (operand s core mode n).core l 0
   unfolding operand
   left_is = by t
     where
-      by : (t : Shift) → wordAfter t size (wordBefore t size (get_or core l 0) f) f
+      by : (t : Shift) → word_after t size (word_before t size (get_or core l 0) f) f
           ≡ get_or (after t size (before t size core l f (number f (cell_at core l))) l f (number f (cell_at core l))) l 0
       by keeps = refl
       by lowers = sym (get_or-set_same core l _ 0 l-below)
@@ -127,7 +127,7 @@ module _ (rules : Rules) (core : List ℕ) (pc mode n : ℕ) (p : Placed rules c
 
   -- what the code finds on the way
   module _ {far close location other old lw near found : ℕ} (ef : far ≡ fold rules.write size n) (ec : close ≡ fold rules.read size n)
-      (el : location ≡ ahead size pc far) (eo : other ≡ ahead size pc close) (ed : old ≡ get_or core location 0) (ew : lw ≡ wordBefore t size old f)
+      (el : location ≡ ahead size pc far) (eo : other ≡ ahead size pc close) (ed : old ≡ get_or core location 0) (ew : lw ≡ word_before t size old f)
       (en : near ≡ get_or core other 0) (eu : found ≡ cond (eqb other location) lw near) where
     location-is : location ≡ l
     location-is = el ∙ rw ef
@@ -141,7 +141,7 @@ module _ (rules : Rules) (core : List ℕ) (pc mode n : ℕ) (p : Placed rules c
     found-is : found ≡ get_or (set core l low) k 0
     found-is = eu ∙ rw (en, other-is, location-is, low-is) (word_of core k l low l-below)
 
-    module _ {read write : ℕ} (er : read ≡ pointerBy r size rules.read pc close found) (ev : write ≡ pointerBy r size rules.write pc far lw) where
+    module _ {read write : ℕ} (er : read ≡ pointer_by r size rules.read pc close found) (ev : write ≡ pointer_by r size rules.write pc far lw) where
       read_is : read ≡ (operand s core mode n).read
       read_is = er ∙ rw (ec, found-is) reads
 
@@ -153,10 +153,10 @@ module _ (rules : Rules) (core : List ℕ) (pc mode n : ℕ) (p : Placed rules c
       word-is q e g = g ∙ rw (e, location-is, low-is) (word_of core q l low l-below)
 
       pub followed : {v w register there left : ℕ} → v ≡ get_or core read 0 → register ≡ cond (eqb read location) lw v
-          → w ≡ get_or core write 0 → there ≡ cond (eqb write location) lw w → left ≡ wordAfter t size lw f
+          → w ≡ get_or core write 0 → there ≡ cond (eqb write location) lw w → left ≡ word_after t size lw f
           → record { read = absolute read; write = absolute write; location = absolute location; near = near; old = old; register = register; there = there; left = left }
-          ≡ chainsOf s core mode n
-      unfolding chainsOf
+          ≡ chains_of s core mode n
+      unfolding chains_of
       followed a b c d e = λ i.
           record {
             read = absolute (read_is i);
@@ -166,5 +166,5 @@ module _ (rules : Rules) (core : List ℕ) (pc mode n : ℕ) (p : Placed rules c
             old = (ed ∙ ap (λ (q : ℕ). get_or core q 0) location-is ∙ old-is) i;
             register = (word-is read a b ∙ ap (λ (q : ℕ). get_or (set core l low) q 0) read_is ∙ register-is) i;
             there = (word-is write c d ∙ ap (λ (q : ℕ). get_or (set core l low) q 0) write-is ∙ there-is) i;
-            left = (e ∙ ap (λ (w : ℕ). wordAfter t size w f) low-is ∙ left_is) i;
+            left = (e ∙ ap (λ (w : ℕ). word_after t size w f) low-is ∙ left_is) i;
           }

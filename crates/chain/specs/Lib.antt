@@ -1,2 +1,2 @@
 pub mod Operands
-pub mod inner
+pub mod Inner

@@ -3,11 +3,11 @@
 
 ghost use Rattle.std.specs.Prelude.{◌≡◌, cond, ◌&&◌, [], ◌∷◌, ◌<◌, length, get_or, set};
 ghost use Rattle.laws.specs.Lists.{every};
-ghost use Rattle.cell.specs.Cells.{unpacked, soundWord};
+ghost use Rattle.cell.specs.Cells.{unpacked, sound_word};
 ghost use Rattle.machine.specs.Pointers as spec;
-ghost use Rattle.machine.specs.Instruction.{bOperand, seen_at};
-ghost use Rattle.chain.specs.Operands.{isPlace, compares, operandsAt, nothing};
-ghost use Rattle.chain.specs.inner.Chains.{Placed, wordBefore, wordAfter, pointerBy, chainsOf};
+ghost use Rattle.machine.specs.Instruction.{b_operand, seen_at};
+ghost use Rattle.chain.specs.Operands.{is_place, compares, operands_at, nothing};
+ghost use Rattle.chain.specs.Inner.Chains.{Placed, word_before, word_after, pointer_by, chains_of};
 
 use address::{field_of, word_at};
 use cell::sound;
@@ -57,7 +57,7 @@ fn word_in(core: &[u64], place: Absolute, at: Absolute, word: u64) -> u64
 // The word at the write location once the decrement is made.
 fn lowered(w: u64, size: u32, mode: u64) -> u64
     requires { (0 < size) × (mode < 8) }
-    ensures { result ≡ wordBefore (get_or spec.shifts mode spec.keeps) size w (spec.field_of (get_or spec.reaches mode spec.here)) }
+    ensures { result ≡ word_before (get_or spec.shifts mode spec.keeps) size w (spec.field_of (get_or spec.reaches mode spec.here)) }
 {
     if mode < PRE_DEC_INDIRECT_A {
         return w;
@@ -72,7 +72,7 @@ fn lowered(w: u64, size: u32, mode: u64) -> u64
 // The word at the write location once the increment is made.
 fn raised(w: u64, size: u32, mode: u64) -> u64
     requires { (0 < size) × (mode < 8) }
-    ensures { result ≡ wordAfter (get_or spec.shifts mode spec.keeps) size w (spec.field_of (get_or spec.reaches mode spec.here)) }
+    ensures { result ≡ word_after (get_or spec.shifts mode spec.keeps) size w (spec.field_of (get_or spec.reaches mode spec.here)) }
 {
     if mode < POST_INC_INDIRECT_A {
         return w;
@@ -84,7 +84,7 @@ fn raised(w: u64, size: u32, mode: u64) -> u64
 // The end of a chain, of the number folded and the word at its location.
 fn pointer(pc: Absolute, mode: u64, folded: Relative, w: u64, limit: u32, size: u32) -> Absolute
     requires { (0 < size) × (0 < limit) × (mode < 8) }
-    ensures { result.0 ≡ pointerBy (get_or spec.reaches mode spec.here) size limit pc.0 folded.0 w }
+    ensures { result.0 ≡ pointer_by (get_or spec.reaches mode spec.here) size limit pc.0 folded.0 w }
 {
     if mode == IMMEDIATE {
         return pc;
@@ -107,7 +107,7 @@ fn follow(
     word: u64,
 ) -> Chains
     requires { Placed rules core.now pc.0 × (mode < 8) }
-    ensures { result ≡ chainsOf (spec.siteAt rules pc.0) (set core.now at.0 word) mode n.0 }
+    ensures { result ≡ chains_of (spec.site_at rules pc.0) (set core.now at.0 word) mode n.0 }
 {
     let size = rules.size;
     let far = fold(n, rules.write, size);
@@ -136,14 +136,14 @@ fn follow(
 
 // Whether the four words that an operand reads are sound.
 fn sound_chains(c: Chains, size: u32) -> bool
-    ensures { result ≡ every (soundWord size) (c.near ∷ c.old ∷ c.register ∷ c.there ∷ []) }
+    ensures { result ≡ every (sound_word size) (c.near ∷ c.old ∷ c.register ∷ c.there ∷ []) }
 {
     sound(c.near, size) & sound(c.old, size) & sound(c.register, size) & sound(c.there, size)
 }
 
 // Whether the core has M cells, PC is one of them, and no limit is 0.
 fn is_place(core: &[u64], rules: Rules, pc: Absolute) -> bool
-    ensures { result ≡ isPlace rules core.now pc.0 }
+    ensures { result ≡ is_place rules core.now pc.0 }
 {
     (core.len() == rules.size as usize)
         & within(pc, rules.size)
@@ -153,7 +153,7 @@ fn is_place(core: &[u64], rules: Rules, pc: Absolute) -> bool
 
 // Whether the other cells that the instruction at PC reads are sound. B goes by the word that A leaves; nothing is written.
 pub fn readable(core: &[u64], rules: Rules, pc: Absolute) -> bool
-    ensures { result ≡ (isPlace rules core.now pc.0 && every (soundWord rules.size) (seen_at (spec.siteAt rules pc.0) core.now)) }
+    ensures { result ≡ (is_place rules core.now pc.0 && every (sound_word rules.size) (seen_at (spec.site_at rules pc.0) core.now)) }
 {
     if !is_place(core, rules, pc) {
         return false;
@@ -191,8 +191,8 @@ fn met(here: u64, read: Absolute, write: Absolute) -> Absolute
 
 // Evaluates both operands of the instruction at PC: the A operand's change is made, then the B operand's.
 pub fn evaluate(core: &mut [u64], rules: Rules, pc: Absolute) -> Operands
-    ensures { (result ≡ cond (isPlace rules core.old pc.0) (operandsAt (spec.siteAt rules pc.0) core.old) nothing)
-        × (core.new ≡ cond (isPlace rules core.old pc.0) (bOperand (spec.siteAt rules pc.0) core.old).core core.old) }
+    ensures { (result ≡ cond (is_place rules core.old pc.0) (operands_at (spec.site_at rules pc.0) core.old) nothing)
+        × (core.new ≡ cond (is_place rules core.old pc.0) (b_operand (spec.site_at rules pc.0) core.old).core core.old) }
 {
     if !is_place(core, rules, pc) {
         return Operands {

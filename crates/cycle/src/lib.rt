@@ -6,14 +6,14 @@ ghost use Rattle.answer.specs.Numbers.{told};
 ghost use Rattle.machine.specs.Step as one;
 ghost use Rattle.machine.specs.Run as spec;
 ghost use Rattle.lent.specs.Parts.{machine_of};
-ghost use Rattle.lent.specs.Given.{given, givenBy};
+ghost use Rattle.lent.specs.Given.{given, given_by};
 
 use machine::{Ceiling, Header, Outcome};
 use steps::run_parts;
 
 // A ceiling on total steps; none is 10,000.
 fn ceiling_of(ceiling: Ceiling) -> u64
-    ensures { result ≡ spec.ceilingOf ceiling }
+    ensures { result ≡ spec.ceiling_of ceiling }
 {
     match ceiling {
         Ceiling::Unsaid => 10000,
@@ -24,7 +24,7 @@ fn ceiling_of(ceiling: Ceiling) -> u64
 // Steps while steps taken are below the ceiling, up to the first answer not 0.
 pub fn run(core: &mut [u64], queue: &mut [u64], h: Header, ceiling: Ceiling) -> Outcome
     ensures { given (told result.answer) result.writes result.steps (machine_of core.new queue.new result.header)
-        ≡ givenBy (spec.run ceiling (machine_of core.old queue.old h)) }
+        ≡ given_by (spec.run ceiling (machine_of core.old queue.old h)) }
 {
     let rules = h.rules;
     let names = h.names;
@@ -64,7 +64,7 @@ pub fn run(core: &mut [u64], queue: &mut [u64], h: Header, ceiling: Ceiling) -> 
 // Executes one instruction of the process at the front: a run with a ceiling of one more step.
 pub fn step(core: &mut [u64], queue: &mut [u64], h: Header) -> Outcome
     ensures { given (told result.answer) result.writes result.steps (machine_of core.new queue.new result.header)
-        ≡ givenBy (one.step (machine_of core.old queue.old h)) }
+        ≡ given_by (one.step (machine_of core.old queue.old h)) }
 {
     let rules = h.rules;
     let names = h.names;

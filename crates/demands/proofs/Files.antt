@@ -10,22 +10,22 @@ use borrow.Author.Tests.{ltb-true, lt-ltb}
 use Rattle.answer.specs.Numbers.{Told, gives}
 use Rattle.laws.proofs.Every.{◌and◌}
 use Rattle.machine.specs.State.{Check, Verdict, accepted, refusal, first}
-use Rattle.machine.proofs.Checks.{isAccepted, passes-accepted, number_of}
+use Rattle.machine.proofs.Checks.{is_accepted, passes-accepted, number_of}
 use Rattle.match_format.specs.declared.Fault.{Fault}
 use Rattle.match_format.specs.declared.Fault.TheVariants.{Nowhere, At}
 use Rattle.match_format.specs.Format.{Warrior, file}
-use Rattle.match_format.specs.Faults.{unless, ◌else◌, fault, faultAt}
+use Rattle.match_format.specs.Faults.{unless, ◌else◌, fault, fault_at}
 use Rattle.match_format.proofs.Chains.{else-left, else-right, unless-true}
-use Rattle.match_file.specs.Reading.{toldBy, zeroed, sizeIn, warriorsIn, warriorsOf}
+use Rattle.match_file.specs.Reading.{told_by, zeroed, size_in, warriors_in, warriors_of}
 use Rattle.match_file.specs.Refusal.{malformed}
 use Rattle.match_file.proofs.Refusal.{thirteen}
 use Rattle.write_checks.specs.Refusal.{Written, settle}
-use Rattle.match_write.specs.Writing.{checks, write, writeAdded}
+use Rattle.match_write.specs.Writing.{checks, write, write_added}
 use Rattle.round_trip.proofs.RoundTrip.{exact}
 use Rattle.demands.specs.Promise.{FilePromise, FirstPromise, AddedPromise}
 use Rattle.demands.specs.Refusals.{FileRefused, LineRefused, WriteRefused}
 
-nowhere : (x : Fault) → toldBy x ≡ gives 0 0 → x ≡ Nowhere
+nowhere : (x : Fault) → told_by x ≡ gives 0 0 → x ≡ Nowhere
 nowhere Nowhere t = refl
 nowhere (At p) t = absurd (false≢true (ap (λ (y : Told). eqb y.number 0) t))
 
@@ -33,22 +33,22 @@ pub file-refuses : (f : List ℕ) (told : Told) (warriors size : ℕ) → FilePr
 file-refuses f told warriors size e =
     record {
       by = λ p q.
-          (e.0 ∙ ap toldBy q, e.1 ∙ ap (λ (x : Fault). zeroed x (warriorsIn f)) q, e.2 ∙ ap (λ (x : Fault). zeroed x (sizeIn f)) q);
-      accepted = λ b i. e.0 ∙ ap toldBy ((exact f b).1 i);
+          (e.0 ∙ ap told_by q, e.1 ∙ ap (λ (x : Fault). zeroed x (warriors_in f)) q, e.2 ∙ ap (λ (x : Fault). zeroed x (size_in f)) q);
+      accepted = λ b i. e.0 ∙ ap told_by ((exact f b).1 i);
       only = λ b t. (exact f b).0 (nowhere (fault f) (sym e.0 ∙ t));
     }
 
-pub line-refuses : (f : List ℕ) (k : ℕ) (told : Told) → told ≡ toldBy (faultAt f k) → LineRefused f k told
+pub line-refuses : (f : List ℕ) (k : ℕ) (told : Told) → told ≡ told_by (fault_at f k) → LineRefused f k told
 line-refuses f k told e =
     record {
-      by = λ p q. e ∙ ap toldBy q;
+      by = λ p q. e ∙ ap told_by q;
       accepted = λ b i h.
-          e ∙ ap (λ (x : Fault). toldBy (x else unless (ltb k (warriorsIn f)) 0)) ((exact f b).1 i)
-          ∙ ap (λ (t : Bool). toldBy (unless t 0)) (lt-ltb k (warriorsIn f) h);
+          e ∙ ap (λ (x : Fault). told_by (x else unless (ltb k (warriors_in f)) 0)) ((exact f b).1 i)
+          ∙ ap (λ (t : Bool). told_by (unless t 0)) (lt-ltb k (warriors_in f) h);
       only = λ b t.
-          let n = nowhere (faultAt f k) (sym e ∙ t) in (
-            (exact f b).0 (else-left (fault f) (unless (ltb k (warriorsIn f)) 0) n),
-            ltb-true k (warriorsIn f) (unless-true (ltb k (warriorsIn f)) 0 (else-right (fault f) (unless (ltb k (warriorsIn f)) 0) n)),
+          let n = nowhere (fault_at f k) (sym e ∙ t) in (
+            (exact f b).0 (else-left (fault f) (unless (ltb k (warriors_in f)) 0) n),
+            ltb-true k (warriors_in f) (unless-true (ltb k (warriors_in f)) 0 (else-right (fault f) (unless (ltb k (warriors_in f)) 0) n)),
           );
     }
 
@@ -56,7 +56,7 @@ settled : (rows : List Check) (made output : List ℕ) → ((n v : ℕ) → firs
 settled rows made output none =
     record { by = λ n v e. ap (λ (w : Verdict). settle w made output) e; exactly = go (first rows) refl ∙ sym (passes-accepted rows) }
   where
-    go : (v : Verdict) → first rows ≡ v → eqb (settle v made output).told.number 0 ≡ isAccepted v
+    go : (v : Verdict) → first rows ≡ v → eqb (settle v made output).told.number 0 ≡ is_accepted v
     go accepted e = refl
     go (refusal n v) e = none n v e
 
@@ -69,11 +69,11 @@ first-refuses size w output g e =
     (number_of (λ n. eqb n 0 ≡ false) (checks size [] w (length output)) (refl and refl and refl and refl and refl and tt)))
 
 pub added-refuses : (f : List ℕ) (w : Warrior) (output : List ℕ) (g : Written) → AddedPromise f w output g
-    → WriteRefused (malformed (fault f) ∷ checks (sizeIn f) (warriorsOf f) w (length output)) output g
-unfolding writeAdded
+    → WriteRefused (malformed (fault f) ∷ checks (size_in f) (warriors_of f) w (length output)) output g
+unfolding write_added
 added-refuses f w output g e =
     subst (WriteRefused rows output) (sym e)
     (settled rows _ output (number_of (λ n. eqb n 0 ≡ false) rows (ap (λ (n : ℕ). eqb n 0) (thirteen (fault f)) and refl and refl and refl and refl and refl and tt)))
   where
     rows : List Check
-    rows = malformed (fault f) ∷ checks (sizeIn f) (warriorsOf f) w (length output)
+    rows = malformed (fault f) ∷ checks (size_in f) (warriors_of f) w (length output)

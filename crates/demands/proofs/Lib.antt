@@ -4,5 +4,5 @@ pub mod Refusals
 pub mod Runs
 pub mod Matches
 pub mod Files
-pub mod Contracts
+pub mod Kept
 pub mod Demands

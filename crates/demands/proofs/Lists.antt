@@ -7,31 +7,31 @@ use mathlib.Core.Logic.{inl, inr}
 use Rattle.machine.specs.declared.Rules.{Rules}
 use Rattle.machine.specs.State.{Machine}
 use Rattle.machine.specs.Fresh.{fresh}
-use Rattle.lent.specs.Given.{Given, givenBy}
-use Rattle.match_load.specs.Loading.{loadMatch}
+use Rattle.lent.specs.Given.{Given, given_by}
+use Rattle.match_load.specs.Loading.{load_match}
 use Rattle.account.specs.Calls.{Load, Step, Run, left, reported}
-use Rattle.account.specs.Lists.{Listed, One, LoadMatch, outcomeOf, singles, spread}
+use Rattle.account.specs.Lists.{Listed, One, LoadMatch, outcome_of, singles, spread}
 use Rattle.reference.specs.Core.{Core}
 use Rattle.reference.specs.Refinement.{Agrees}
 use Rattle.demands.specs.Promise.{ListedPromise}
-use Rattle.demands.specs.Made.{JustMade, Reply, Made, calls, last, written, returnedLast, MadeAgrees}
+use Rattle.demands.specs.Made.{JustMade, Reply, Made, calls, last, written, returned_last, MadeAgrees}
 use Rattle.demands.proofs.Answers.{agrees-same, call-agrees}
 
-gave-is : (x : Listed) (m : Machine) (g : Given) → ListedPromise x m g → g ≡ givenBy (outcomeOf x m)
+gave-is : (x : Listed) (m : Machine) (g : Given) → ListedPromise x m g → g ≡ given_by (outcome_of x m)
 gave-is (One (Load name body origin place)) m g e = e
 gave-is (One Step) m g e = e
 gave-is (One (Run ceiling)) m g e = e
 gave-is (LoadMatch f) m g e = e.1.0
 
 pub made-follows : (made : List Reply) (m : Machine) → Made made m
-    → (last made m ≡ left outcomeOf (calls made) m) × (written made ≡ reported outcomeOf (calls made) m)
+    → (last made m ≡ left outcome_of (calls made) m) × (written made ≡ reported outcome_of (calls made) m)
 made-follows [] m h = (refl, refl)
 made-follows (x ∷ xs) m h =
     let e = gave-is x.call m x.gave h.0 in
     let r = made-follows xs x.gave.machine h.1 in
     let n = ap (λ (g : Given). g.machine) e in (
-      r.0 ∙ ap (left outcomeOf (calls xs)) n,
-      ap₂ (λ (a b : ℕ). a + b) (ap (λ (g : Given). g.writes) e) (r.1 ∙ ap (reported outcomeOf (calls xs)) n),
+      r.0 ∙ ap (left outcome_of (calls xs)) n,
+      ap₂ (λ (a b : ℕ). a + b) (ap (λ (g : Given). g.writes) e) (r.1 ∙ ap (reported outcome_of (calls xs)) n),
     )
 
 -- and fresh makes 01's machine
@@ -46,27 +46,27 @@ pub made-agrees : (made : List Reply) (m : Machine) (c : Core) → Made made m �
 made-agrees [] m c h a = a
 made-agrees (x ∷ xs) m c h a =
     let e = gave-is x.call m x.gave h.0 in
-    let o = outcomeOf x.call m in
+    let o = outcome_of x.call m in
     let r = call-agrees x.call (spread (calls xs) o.machine) m c a in
     subst (λ (g : Given). MadeAgrees (record { call = x.call; gave = g } ∷ xs) m c) (sym e) (
       agrees-same (spread (calls (x ∷ xs)) m) m c a,
       r.0,
-      made-agrees xs o.machine (returnedLast (singles x.call m) m c).core (subst (Made xs) (ap (λ (g : Given). g.machine) e) h.1) r.1,
+      made-agrees xs o.machine (returned_last (singles x.call m) m c).core (subst (Made xs) (ap (λ (g : Given). g.machine) e) h.1) r.1,
     )
 
 -- every list of calls can be made, from every record
 abbrev pub replies : List Listed → Machine → List Reply
 replies [] m = []
-replies (x ∷ xs) m = record { call = x; gave = givenBy (outcomeOf x m) } ∷ replies xs (outcomeOf x m).machine
+replies (x ∷ xs) m = record { call = x; gave = given_by (outcome_of x m) } ∷ replies xs (outcome_of x m).machine
 
 pub can-be-made : (xs : List Listed) (m : Machine) → Made (replies xs m) m × (calls (replies xs m) ≡ xs)
 can-be-made [] m = (tt, refl)
 can-be-made (x ∷ xs) m =
-    let r = can-be-made xs (outcomeOf x m).machine in
+    let r = can-be-made xs (outcome_of x m).machine in
     ((kept x m, r.0), ap (λ (l : List Listed). x ∷ l) r.1)
   where
-    kept : (x : Listed) (m : Machine) → ListedPromise x m (givenBy (outcomeOf x m))
+    kept : (x : Listed) (m : Machine) → ListedPromise x m (given_by (outcome_of x m))
     kept (One (Load name body origin place)) m = refl
     kept (One Step) m = refl
     kept (One (Run ceiling)) m = refl
-    kept (LoadMatch f) m = ((loadMatch m f).warrior, (refl, refl))
+    kept (LoadMatch f) m = ((load_match m f).warrior, (refl, refl))

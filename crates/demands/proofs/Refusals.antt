@@ -10,87 +10,87 @@ use Rattle.answer.specs.Numbers.{Told, gives}
 use Rattle.laws.specs.Lists.{among}
 use Rattle.laws.proofs.Every.{◌and◌}
 use Rattle.cell.specs.declared.Cell.{Cell}
-use Rattle.cell.specs.Cells.{soundWord, unpacked}
-use Rattle.types.specs.Defaults.{toldOf}
+use Rattle.cell.specs.Cells.{sound_word, unpacked}
+use Rattle.types.specs.Defaults.{told_of}
 use Rattle.metadata.specs.Metadata.{called}
 use Rattle.machine.specs.declared.Rules.{Rules}
 use Rattle.machine.specs.State.{Machine, Outcome, done, Check, check, Verdict, accepted, refusal, first, passes, settle}
-use Rattle.machine.specs.Soundness.{soundHeader, freshChecks}
-use Rattle.machine.specs.Fresh.{freshMachine, fresh, lent}
-use Rattle.machine.specs.Load.{loaded, load, loadChecks}
-use Rattle.machine.specs.Step.{executed, step, stepChecks, executes}
-use Rattle.machine.specs.Run.{word_at, readChecks, read}
-use Rattle.machine.proofs.Checks.{isAccepted, passes-accepted, number_of}
+use Rattle.machine.specs.Soundness.{sound_header, fresh_checks}
+use Rattle.machine.specs.Fresh.{fresh_machine, fresh, lent}
+use Rattle.machine.specs.Load.{loaded, load, load_checks}
+use Rattle.machine.specs.Step.{executed, step, step_checks, executes}
+use Rattle.machine.specs.Run.{word_at, read_checks, read}
+use Rattle.machine.proofs.Checks.{is_accepted, passes-accepted, number_of}
 use Rattle.machine.proofs.Load.{is-loaded}
 use Rattle.machine.proofs.Step.{is-executed}
-use Rattle.lent.specs.Given.{Given, givenBy}
+use Rattle.lent.specs.Given.{Given, given_by}
 use Rattle.account.specs.Calls.{Load, Step}
 use Rattle.demands.specs.Promise.{Promise, FreshPromise, FreshNumber, CellNumber, DefaultPromise}
 use Rattle.demands.specs.Refusals.{Refused, FreshRefused, CellRefused, DefaultRefused}
 
-abbrev valueIn : Verdict → ℕ
-valueIn accepted = 0
-valueIn (refusal n v) = v
+abbrev value_in : Verdict → ℕ
+value_in accepted = 0
+value_in (refusal n v) = v
 
 -- whatever looks at the number of what a call settles on, where no row's number passes the test and the number of its work does
 pub settled-exactly : (test : ℕ → Bool) (rows : List Check) (m : Machine) (o : Outcome) → ((n v : ℕ) → first rows ≡ refusal n v → test n ≡ false)
     → test o.number ≡ true → test (settle (first rows) m o).number ≡ passes rows
 settled-exactly test rows m o none does = go (first rows) refl ∙ sym (passes-accepted rows)
   where
-    go : (v : Verdict) → first rows ≡ v → test (settle v m o).number ≡ isAccepted v
+    go : (v : Verdict) → first rows ≡ v → test (settle v m o).number ≡ is_accepted v
     go accepted e = does
     go (refusal n v) e = none n v e
 
 settled : (rows : List Check) (others : List ℕ) (m : Machine) (o : Outcome) → ((n v : ℕ) → first rows ≡ refusal n v → among others n ≡ false)
-    → among others o.number ≡ true → Refused rows others m (givenBy (settle (first rows) m o))
+    → among others o.number ≡ true → Refused rows others m (given_by (settle (first rows) m o))
 settled rows others m o none does =
-    record { by = λ n v e. ap (λ (w : Verdict). givenBy (settle w m o)) e; exactly = settled-exactly (among others) rows m o none does }
+    record { by = λ n v e. ap (λ (w : Verdict). given_by (settle w m o)) e; exactly = settled-exactly (among others) rows m o none does }
 
 pub load-refuses : (name body : List ℕ) (origin place : ℕ) (m : Machine) (g : Given) → Promise (Load name body origin place) m g
-    → Refused (loadChecks m name body place) (0 ∷ []) m g
+    → Refused (load_checks m name body place) (0 ∷ []) m g
 unfolding load
 load-refuses name body origin place m g e =
-    subst (Refused (loadChecks m name body place) (0 ∷ []) m) (sym e)
-    (settled (loadChecks m name body place) (0 ∷ []) m (loaded m (called name) body origin place)
-    (number_of (λ n. among (0 ∷ []) n ≡ false) (loadChecks m name body place) (refl and refl and refl and refl and refl and refl and refl and tt))
+    subst (Refused (load_checks m name body place) (0 ∷ []) m) (sym e)
+    (settled (load_checks m name body place) (0 ∷ []) m (loaded m (called name) body origin place)
+    (number_of (λ n. among (0 ∷ []) n ≡ false) (load_checks m name body place) (refl and refl and refl and refl and refl and refl and refl and tt))
     (ap (among (0 ∷ [])) (is-loaded m name body origin place).number))
 
-pub step-refuses : (m : Machine) (g : Given) → Promise Step m g → Refused (stepChecks m) (0 ∷ 11 ∷ 12 ∷ []) m g
+pub step-refuses : (m : Machine) (g : Given) → Promise Step m g → Refused (step_checks m) (0 ∷ 11 ∷ 12 ∷ []) m g
 unfolding step
 step-refuses m g e =
-    subst (Refused (stepChecks m) (0 ∷ 11 ∷ 12 ∷ []) m) (sym e)
-    (settled (stepChecks m) (0 ∷ 11 ∷ 12 ∷ []) m (executed m)
-    (number_of (λ n. executes n ≡ false) (stepChecks m) (refl and refl and refl and refl and refl and refl and refl and tt)) (is-executed m).executes)
+    subst (Refused (step_checks m) (0 ∷ 11 ∷ 12 ∷ []) m) (sym e)
+    (settled (step_checks m) (0 ∷ 11 ∷ 12 ∷ []) m (executed m)
+    (number_of (λ n. executes n ≡ false) (step_checks m) (refl and refl and refl and refl and refl and refl and refl and tt)) (is-executed m).executes)
 
 module _ (rules : Rules) (core queue : List ℕ) where
-  numbers : (n v : ℕ) → first (freshChecks rules core queue) ≡ refusal n v → eqb n 0 ≡ false
-  numbers = number_of (λ n. eqb n 0 ≡ false) (freshChecks rules core queue) (refl and refl and refl and tt)
+  numbers : (n v : ℕ) → first (fresh_checks rules core queue) ≡ refusal n v → eqb n 0 ≡ false
+  numbers = number_of (λ n. eqb n 0 ≡ false) (fresh_checks rules core queue) (refl and refl and refl and tt)
 
-  pub fresh-refuses : (g : Given) → FreshPromise rules core queue g → Refused (freshChecks rules core queue) (0 ∷ []) (lent core queue) g
+  pub fresh-refuses : (g : Given) → FreshPromise rules core queue g → Refused (fresh_checks rules core queue) (0 ∷ []) (lent core queue) g
   unfolding fresh
   fresh-refuses g e =
-      subst (Refused (freshChecks rules core queue) (0 ∷ []) (lent core queue)) (sym e)
-      (settled (freshChecks rules core queue) (0 ∷ []) (lent core queue) (done (freshMachine rules core queue) 0 0)
-      (number_of (λ n. among (0 ∷ []) n ≡ false) (freshChecks rules core queue) (refl and refl and refl and tt)) refl)
+      subst (Refused (fresh_checks rules core queue) (0 ∷ []) (lent core queue)) (sym e)
+      (settled (fresh_checks rules core queue) (0 ∷ []) (lent core queue) (done (fresh_machine rules core queue) 0 0)
+      (number_of (λ n. among (0 ∷ []) n ≡ false) (fresh_checks rules core queue) (refl and refl and refl and tt)) refl)
 
   pub exported-fresh-refuses : (number : ℕ) (m : Machine) → FreshNumber rules core queue number m → FreshRefused rules core queue number m
   unfolding fresh
   exported-fresh-refuses number m e =
       record {
         by = λ n v f. (
-          e.0 ∙ ap (λ (w : Verdict). (settle w (lent core queue) (done (freshMachine rules core queue) 0 0)).number) f,
-          e.1 ∙ ap (λ (w : Verdict). (settle w (lent core queue) (done (freshMachine rules core queue) 0 0)).machine) f,
+          e.0 ∙ ap (λ (w : Verdict). (settle w (lent core queue) (done (fresh_machine rules core queue) 0 0)).number) f,
+          e.1 ∙ ap (λ (w : Verdict). (settle w (lent core queue) (done (fresh_machine rules core queue) 0 0)).machine) f,
         );
         exactly =
             ap (λ (n : ℕ). eqb n 0) e.0
-            ∙ settled-exactly (λ n. eqb n 0) (freshChecks rules core queue) (lent core queue) (done (freshMachine rules core queue) 0 0) numbers refl;
+            ∙ settled-exactly (λ n. eqb n 0) (fresh_checks rules core queue) (lent core queue) (done (fresh_machine rules core queue) 0 0) numbers refl;
       }
 
 -- cell reading's rows tell no value
 no_value : (a b : Bool) (n v : ℕ) → first (check a 9 ∷ check b 9 ∷ []) ≡ refusal n v → v ≡ 0
-no_value true b n v e = sym (ap valueIn e)
-no_value false true n v e = sym (ap valueIn e)
-no_value false false n v e = absurd (true≢false (ap isAccepted e))
+no_value true b n v e = sym (ap value_in e)
+no_value false true n v e = sym (ap value_in e)
+no_value false false n v e = absurd (true≢false (ap is_accepted e))
 
 pub cell-refuses : (m : Machine) (z : ℤ) (number : ℕ) (cell : Cell) → CellNumber m z number cell → CellRefused m z number cell
 unfolding read
@@ -98,11 +98,11 @@ cell-refuses m z number cell e =
     record {
       by = λ n v f. (
         e.0 ∙ ap (λ (w : Verdict). (settle w m word).number) f,
-        e.1 ∙ ap (λ (w : Verdict). unpacked (settle w m word).value) f ∙ ap unpacked (no_value (not (soundHeader m)) (not (soundWord m.header.rules.size (word_at m z))) n v f),
+        e.1 ∙ ap (λ (w : Verdict). unpacked (settle w m word).value) f ∙ ap unpacked (no_value (not (sound_header m)) (not (sound_word m.header.rules.size (word_at m z))) n v f),
       );
       exactly =
           ap (λ (n : ℕ). eqb n 0) e.0
-          ∙ settled-exactly (λ n. eqb n 0) (readChecks m z) m word (number_of (λ n. eqb n 0 ≡ false) (readChecks m z) (refl and refl and tt)) refl;
+          ∙ settled-exactly (λ n. eqb n 0) (read_checks m z) m word (number_of (λ n. eqb n 0 ≡ false) (read_checks m z) (refl and refl and tt)) refl;
     }
   where
     word : Outcome
@@ -111,6 +111,6 @@ cell-refuses m z number cell e =
 pub default-refuses : (opcode a b : ℕ) (told : Told) (modifier : ℕ) → DefaultPromise opcode a b told modifier → DefaultRefused opcode a b told
 default-refuses opcode a b told modifier e =
     record {
-      by = λ q. e.0 ∙ ap toldOf q;
+      by = λ q. e.0 ∙ ap told_of q;
       accepted = λ q. e.0 ∙ ap (λ (t : Bool). cond t (gives 4 0) (gives 0 0)) q;
     }

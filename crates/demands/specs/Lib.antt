@@ -1,5 +1,5 @@
 pub mod Promise
-pub mod Contracts
+pub mod Kept
 pub mod Made
 pub mod Refusals
 pub mod Demands

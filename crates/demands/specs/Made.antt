@@ -43,10 +43,10 @@ written [] = 0
 written (x ∷ xs) = x.gave.writes + written xs
 
 -- the Rust over single calls, one after the other: what it returned last, Ok where there is none
-abbrev pub returnedLast : List Call → Machine → Core → Returned
-returnedLast [] m c = record { core = c; answer = Ok }
-returnedLast (x ∷ []) m c = rust (answered (outcome x m).number) x m c
-returnedLast (x ∷ y ∷ xs) m c = returnedLast (y ∷ xs) (outcome x m).machine (rust (answered (outcome x m).number) x m c).core
+abbrev pub returned_last : List Call → Machine → Core → Returned
+returned_last [] m c = record { core = c; answer = Ok }
+returned_last (x ∷ []) m c = rust (answered (outcome x m).number) x m c
+returned_last (x ∷ y ∷ xs) m c = returned_last (y ∷ xs) (outcome x m).machine (rust (answered (outcome x m).number) x m c).core
 
 -- the Rust beside the program: the states are the same before the calls and after each, and each answer is the Rust's; of a match loaded in one call,
 -- its answer to the last load that was made
@@ -54,5 +54,5 @@ abbrev pub MadeAgrees : List Reply → Machine → Core → Type 0
 MadeAgrees [] m c = Same m c
 MadeAgrees (x ∷ xs) m c =
     let t = x.gave.told in
-    let r = returnedLast (singles x.call m) m c in
+    let r = returned_last (singles x.call m) m c in
     Same m c × (r.answer ≡ matching (answered t.number) t.number t.value) × MadeAgrees xs x.gave.machine r.core

@@ -6,21 +6,21 @@ use Rattle.answer.specs.Numbers.{Told, gives}
 use Rattle.laws.specs.Lists.{among}
 use Rattle.cell.specs.declared.Cell.{Cell}
 use Rattle.cell.specs.Cells.{unpacked}
-use Rattle.types.specs.Defaults.{unnamed, defaultOf}
+use Rattle.types.specs.Defaults.{unnamed, default_of}
 use Rattle.machine.specs.declared.Ceiling.{Ceiling}
 use Rattle.machine.specs.declared.Rules.{Rules}
 use Rattle.machine.specs.State.{Machine, Check, refusal, first, passes}
-use Rattle.machine.specs.Soundness.{soundHeader, freshChecks}
+use Rattle.machine.specs.Soundness.{sound_header, fresh_checks}
 use Rattle.machine.specs.Fresh.{lent}
-use Rattle.machine.specs.Load.{loadChecks}
-use Rattle.machine.specs.Step.{stepChecks, executes}
-use Rattle.machine.specs.Run.{plays, ceilingOf, readChecks}
+use Rattle.machine.specs.Load.{load_checks}
+use Rattle.machine.specs.Step.{step_checks, executes}
+use Rattle.machine.specs.Run.{plays, ceiling_of, read_checks}
 use Rattle.lent.specs.Given.{Given, given}
 use Rattle.match_format.specs.declared.Fault.TheVariants.{At}
 use Rattle.match_format.specs.Format.{Bytes, IsFile}
-use Rattle.match_format.specs.Faults.{fault, faultAt}
-use Rattle.match_file.specs.Reading.{warriorsIn, warriorOf}
-use Rattle.match_load.specs.Loading.{loads, matchChecks}
+use Rattle.match_format.specs.Faults.{fault, fault_at}
+use Rattle.match_file.specs.Reading.{warriors_in, warrior_of}
+use Rattle.match_load.specs.Loading.{loads, match_checks}
 use Rattle.write_checks.specs.Refusal.{Written}
 
 -- a call whose order has these rows, lent m, gave g: the first row that applies tells the number and its value, 0 is reported and the record is as it was;
@@ -31,44 +31,44 @@ pub record Refused (rows : List Check) (others : List ℕ) (m : Machine) (g : Gi
 
 -- fresh: what was lent is as it was, and the header is all zero
 pub record FreshRefused (rules : Rules) (core queue : List ℕ) (number : ℕ) (m : Machine) : Type 0 where
-  pub by : (n v : ℕ) → first (freshChecks rules core queue) ≡ refusal n v → (number ≡ n) × (m ≡ lent core queue)
-  pub exactly : eqb number 0 ≡ passes (freshChecks rules core queue)
+  pub by : (n v : ℕ) → first (fresh_checks rules core queue) ≡ refusal n v → (number ≡ n) × (m ≡ lent core queue)
+  pub exactly : eqb number 0 ≡ passes (fresh_checks rules core queue)
 
 -- cell reading: all zero; it is lent nothing that it could change
 pub record CellRefused (m : Machine) (z : ℤ) (number : ℕ) (cell : Cell) : Type 0 where
-  pub by : (n v : ℕ) → first (readChecks m z) ≡ refusal n v → (number ≡ n) × (cell ≡ unpacked 0)
-  pub exactly : eqb number 0 ≡ passes (readChecks m z)
+  pub by : (n v : ℕ) → first (read_checks m z) ≡ refusal n v → (number ≡ n) × (cell ≡ unpacked 0)
+  pub exactly : eqb number 0 ≡ passes (read_checks m z)
 
 -- a run: 9 (header), then its steps. A refusal inside it is that of the step which it would take next: the steps before are answered 0, and the record is
 -- as the last of them left it; and where a row applies to the step after k that are answered 0, it is refused there
 pub record RunRefused (ceiling : Ceiling) (m : Machine) (g : Given) : Type 0 where
-  pub header : soundHeader m ≡ false → g ≡ given (gives 9 0) 0 0 m
-  pub inside : soundHeader m ≡ true → executes g.told.number ≡ false
-      → (first (stepChecks g.machine) ≡ refusal g.told.number g.told.value) × ((plays g.steps m).number ≡ 0) × (g.machine ≡ (plays g.steps m).machine)
-  pub there : soundHeader m ≡ true → (k : ℕ) → k < ceilingOf ceiling - m.header.steps → (plays k m).number ≡ 0
-      → (n v : ℕ) → first (stepChecks (plays k m).machine) ≡ refusal n v → (g.told ≡ gives n v) × (g.steps ≡ k) × (g.machine ≡ (plays k m).machine)
+  pub header : sound_header m ≡ false → g ≡ given (gives 9 0) 0 0 m
+  pub inside : sound_header m ≡ true → executes g.told.number ≡ false
+      → (first (step_checks g.machine) ≡ refusal g.told.number g.told.value) × ((plays g.steps m).number ≡ 0) × (g.machine ≡ (plays g.steps m).machine)
+  pub there : sound_header m ≡ true → (k : ℕ) → k < ceiling_of ceiling - m.header.steps → (plays k m).number ≡ 0
+      → (n v : ℕ) → first (step_checks (plays k m).machine) ≡ refusal n v → (g.told ≡ gives n v) × (g.steps ≡ k) × (g.machine ≡ (plays k m).machine)
 
 -- the order of the load of warrior k of a file
-abbrev pub warriorChecks : List ℕ → ℕ → Machine → List Check
-warriorChecks f k m = let w = warriorOf f k in loadChecks m w.name w.body w.place
+abbrev pub warrior_checks : List ℕ → ℕ → Machine → List Check
+warrior_checks f k m = let w = warrior_of f k in load_checks m w.name w.body w.place
 
 -- a match loaded in one call: 9 (header), 13, 1, then its loads. A refusal inside it is that of the warrior whose number it tells: the loads before are
 -- answered 0, the record is as the last of them left it, and the writes are theirs; and where a row applies to the load of warrior k and the loads
 -- before it are answered 0, it is refused there
 pub record MatchRefused (f : List ℕ) (m : Machine) (g : Given) (warrior : ℕ) : Type 0 where
-  pub by : (n v : ℕ) → first (matchChecks m f) ≡ refusal n v → (g ≡ given (gives n v) 0 0 m) × (warrior ≡ 0)
-  pub inside : passes (matchChecks m f) ≡ true → eqb g.told.number 0 ≡ false
+  pub by : (n v : ℕ) → first (match_checks m f) ≡ refusal n v → (g ≡ given (gives n v) 0 0 m) × (warrior ≡ 0)
+  pub inside : passes (match_checks m f) ≡ true → eqb g.told.number 0 ≡ false
       → let o = (loads f 0 warrior m).outcome in
-      (warrior < warriorsIn f) × (o.number ≡ 0) × (first (warriorChecks f warrior o.machine) ≡ refusal g.told.number g.told.value)
+      (warrior < warriors_in f) × (o.number ≡ 0) × (first (warrior_checks f warrior o.machine) ≡ refusal g.told.number g.told.value)
       × (g.machine ≡ o.machine) × (g.writes ≡ o.writes)
-  pub there : passes (matchChecks m f) ≡ true → (k : ℕ) → k < warriorsIn f → (loads f 0 k m).outcome.number ≡ 0
-      → (n v : ℕ) → first (warriorChecks f k (loads f 0 k m).outcome.machine) ≡ refusal n v
+  pub there : passes (match_checks m f) ≡ true → (k : ℕ) → k < warriors_in f → (loads f 0 k m).outcome.number ≡ 0
+      → (n v : ℕ) → first (warrior_checks f k (loads f 0 k m).outcome.machine) ≡ refusal n v
       → (g.told ≡ gives n v) × (warrior ≡ k) × (g.machine ≡ (loads f 0 k m).outcome.machine) × (g.writes ≡ (loads f 0 k m).outcome.writes)
 
 -- the default modifier: 4, index 0, exactly where there is none
 pub record DefaultRefused (opcode a b : ℕ) (told : Told) : Type 0 where
-  pub by : defaultOf opcode a b ≡ unnamed → told ≡ gives 4 0
-  pub accepted : eqb (defaultOf opcode a b) unnamed ≡ false → told ≡ gives 0 0
+  pub by : default_of opcode a b ≡ unnamed → told ≡ gives 4 0
+  pub accepted : eqb (default_of opcode a b) unnamed ≡ false → told ≡ gives 0 0
 
 -- reading a match file: 13 with the position of the first fault, and all zero; accepted are exactly the files of the format
 pub record FileRefused (f : List ℕ) (told : Told) (warriors size : ℕ) : Type 0 where
@@ -78,9 +78,9 @@ pub record FileRefused (f : List ℕ) (told : Told) (warriors size : ℕ) : Type
 
 -- reading a warrior's line: a warrior number not below n is refused too
 pub record LineRefused (f : List ℕ) (k : ℕ) (told : Told) : Type 0 where
-  pub by : (p : ℕ) → faultAt f k ≡ At p → told ≡ gives 13 p
-  pub accepted : Bytes f → IsFile f → k < warriorsIn f → told ≡ gives 0 0
-  pub only : Bytes f → told ≡ gives 0 0 → IsFile f × (k < warriorsIn f)
+  pub by : (p : ℕ) → fault_at f k ≡ At p → told ≡ gives 13 p
+  pub accepted : Bytes f → IsFile f → k < warriors_in f → told ≡ gives 0 0
+  pub only : Bytes f → told ≡ gives 0 0 → IsFile f × (k < warriors_in f)
 
 -- writing one: the output is as it was, and the length is 0
 pub record WriteRefused (rows : List Check) (output : List ℕ) (g : Written) : Type 0 where

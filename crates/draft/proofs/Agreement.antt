@@ -14,17 +14,17 @@ use Rattle.laws.proofs.Tests.{both, neither}
 use Rattle.laws.proofs.Every.{every-weaker}
 use Rattle.cell.specs.declared.Cell.{Cell}
 use Rattle.types.specs.Opcode.{DJN}
-use Rattle.cell.specs.Cells.{unpacked, soundWord, cell_at}
+use Rattle.cell.specs.Cells.{unpacked, sound_word, cell_at}
 use Rattle.cell.proofs.Words.{word-range}
 use Rattle.cell.proofs.Soundness.{Sound, sound-fields}
 use Rattle.machine.specs.declared.Rules.{Rules}
 use Rattle.machine.specs.State.{Machine, accepted, first}
-use Rattle.machine.specs.Queue.{unpackedEntry, entries, front, pop}
-use Rattle.machine.specs.Soundness.{divides, soundHeader, soundEntry}
+use Rattle.machine.specs.Queue.{unpacked_entry, entries, front, pop}
+use Rattle.machine.specs.Soundness.{divides, sound_header, sound_entry}
 use Rattle.machine.specs.Pointers.{fold}
 use Rattle.machine.specs.Execution.{Next, ends, goes, splits}
 use Rattle.machine.specs.Instruction.{fetched}
-use Rattle.machine.specs.Step.{pc, popped, instruction, operandA, operandB, effect, coreAfter, counted, executed, stepChecks, step, executes}
+use Rattle.machine.specs.Step.{pc, popped, instruction, operand_a, operand_b, effect, core_after, counted, executed, step_checks, step, executes}
 use Rattle.machine.proofs.Checks.{passed}
 use Rattle.machine.proofs.Queue.{entries-pop}
 use Rattle.machine.proofs.Soundness.{divisor-at-most, tested, sound-entry}
@@ -33,9 +33,9 @@ use Rattle.machine.proofs.Step.{not_last, step-by-cases, step-executed, nonzero,
 use Rattle.draft.specs.Evaluation.{modes, immediate, evaluate}
 use Rattle.draft.specs.Draft.{State, Done, modifiers, I, execute, opcodes, NOP, obey}
 use Rattle.draft.specs.Draft
-use Rattle.draft.specs.Comparison.{cells, draftRules, drafted, places, room}
+use Rattle.draft.specs.Comparison.{cells, draft_rules, drafted, places, room}
 use Rattle.draft.specs.Agreement.{Agreement}
-use Rattle.draft.specs.Departures.{scene, comparesWhole, readsAgain, keepsModes, hitsLive, pointersDiffer, unlikeRegister, isDivision, testsBoth, comparesTwins, departs}
+use Rattle.draft.specs.Departures.{scene, compares_whole, reads_again, keeps_modes, hits_live, pointers_differ, unlike_register, is_division, tests_both, compares_twins, departs}
 use Rattle.draft.proofs.Cores.{reads}
 use Rattle.draft.proofs.Operands.{Same, same_operand, operand-long, read-lt, write-lt, register-range, live-register, keeps-b}
 use Rattle.draft.proofs.Effects.{nexts, Agree, Clear, same_effect}
@@ -54,14 +54,14 @@ record Facts (m : Machine) : Type 0 where
   sound : Sound m.header.rules.size (instruction m)
   opcode : (instruction m).opcode < 17
 
-facts : (m : Machine) → first (stepChecks m) ≡ accepted → Facts m
+facts : (m : Machine) → first (step_checks m) ≡ accepted → Facts m
 facts m e =
-    let p = passed (stepChecks m) e in
-    let h = tested m (not-false (soundHeader m) p.0) in
+    let p = passed (step_checks m) e in
+    let h = tested m (not-false (sound_header m) p.0) in
     let size = m.header.rules.size in
     let z = both (leb 1 size) (leb size 46341) h.size in
     let w = divisor-at-most m.header.rules.write size (leb-true _ _ z.0) (both (divides m.header.rules.read size) (divides m.header.rules.write size) h.limits).1 in
-    let s = sound-fields m.header.rules.size (get_or m.core (pc m) 0) (not-false (soundWord m.header.rules.size (get_or m.core (pc m) 0)) p.1.1.1.1.0) in
+    let s = sound-fields m.header.rules.size (get_or m.core (pc m) 0) (not-false (sound_word m.header.rules.size (get_or m.core (pc m) 0)) p.1.1.1.1.0) in
     record {
       pos = leb-true _ _ z.0;
       folds = λ p. fold-below _ size p w.0 w.1;
@@ -70,27 +70,27 @@ facts m e =
       head = h.head;
       limit = h.limit;
       some = nonzero p.1.0;
-      there = (sound-entry m.header (front m) (not-false (soundEntry m.header (front m)) p.1.1.0)).place;
+      there = (sound-entry m.header (front m) (not-false (sound_entry m.header (front m)) p.1.1.0)).place;
       sound = s.1;
       opcode = not_last (instruction m).opcode s.1.opcode p.1.1.1.1.1.0;
     }
 
 -- none of the six
 record None (m : Machine) : Type 0 where
-  first : readsAgain m ≡ false
-  second : keepsModes m ≡ false
-  third : unlikeRegister m ≡ false
-  fourth : isDivision m ≡ false
-  fifth : testsBoth m ≡ false
-  sixth : comparesTwins m ≡ false
+  first : reads_again m ≡ false
+  second : keeps_modes m ≡ false
+  third : unlike_register m ≡ false
+  fourth : is_division m ≡ false
+  fifth : tests_both m ≡ false
+  sixth : compares_twins m ≡ false
 
 none_of : (m : Machine) → departs m ≡ false → None m
 none_of m e =
-    let p6 = neither (readsAgain m || keepsModes m || unlikeRegister m || isDivision m || testsBoth m) (comparesTwins m) e in
-    let p5 = neither (readsAgain m || keepsModes m || unlikeRegister m || isDivision m) (testsBoth m) p6.0 in
-    let p4 = neither (readsAgain m || keepsModes m || unlikeRegister m) (isDivision m) p5.0 in
-    let p3 = neither (readsAgain m || keepsModes m) (unlikeRegister m) p4.0 in
-    let p2 = neither (readsAgain m) (keepsModes m) p3.0 in
+    let p6 = neither (reads_again m || keeps_modes m || unlike_register m || is_division m || tests_both m) (compares_twins m) e in
+    let p5 = neither (reads_again m || keeps_modes m || unlike_register m || is_division m) (tests_both m) p6.0 in
+    let p4 = neither (reads_again m || keeps_modes m || unlike_register m) (is_division m) p5.0 in
+    let p3 = neither (reads_again m || keeps_modes m) (unlike_register m) p4.0 in
+    let p2 = neither (reads_again m) (keeps_modes m) p3.0 in
     record { first = p2.0; second = p2.1; third = p3.1; fourth = p4.1; fifth = p5.1; sixth = p6.1 }
 
 module _ (m : Machine) (f : Facts m) (none : None m) where
@@ -105,34 +105,34 @@ module _ (m : Machine) (f : Facts m) (none : None m) where
 
   -- B's number, read again from the core
   abbrev again : ℕ
-  again = (fetched (operandA m).core (pc m)).b.0
+  again = (fetched (operand_a m).core (pc m)).b.0
 
-  sameA : Same M (pc m) (operandA m).core (operandA m).read (operandA m).write (operandA m).register (Draft.operandA (draftRules rules) (cells m) (pc m) IR)
-  sameA = same_operand rules f.pos f.fits (pc m) IR.a.0 f.there m.core f.long IR.a_mode f.sound.a-mode
+  same_a : Same M (pc m) (operand_a m).core (operand_a m).read (operand_a m).write (operand_a m).register (Draft.operand_a (draft_rules rules) (cells m) (pc m) IR)
+  same_a = same_operand rules f.pos f.fits (pc m) IR.a.0 f.there m.core f.long IR.a_mode f.sound.a_mode
 
-  longA : length (operandA m).core ≡ M
-  longA = operand-long rules f.pos f.fits (pc m) IR.a.0 f.there m.core f.long IR.a_mode
+  long_a : length (operand_a m).core ≡ M
+  long_a = operand-long rules f.pos f.fits (pc m) IR.a.0 f.there m.core f.long IR.a_mode
 
-  jump-lt : (operandA m).read < M
-  jump-lt = read-lt rules f.pos f.fits (pc m) IR.a.0 f.there m.core f.long IR.a_mode f.sound.a-mode
+  jump-lt : (operand_a m).read < M
+  jump-lt = read-lt rules f.pos f.fits (pc m) IR.a.0 f.there m.core f.long IR.a_mode f.sound.a_mode
 
   -- it is the number as fetched
   kept : again ≡ IR.b.0
-  kept = keeps-b rules f.pos f.fits (pc m) IR.a.0 f.there m.core f.long (f.folds _) IR.a_mode f.sound.a-mode none.first
+  kept = keeps-b rules f.pos f.fits (pc m) IR.a.0 f.there m.core f.long (f.folds _) IR.a_mode f.sound.a_mode none.first
 
-  sameB : Same M (pc m) (operandB m).core (operandB m).read (operandB m).write (operandB m).register (Draft.operandB (draftRules rules) (cells m) (pc m) IR)
-  sameB =
-      subst (λ (cs : List Cell). Same M (pc m) (operandB m).core (operandB m).read (operandB m).write (operandB m).register
-      (evaluate (draftRules rules) cs (pc m) (get_or modes IR.b_mode immediate) IR.b.0)) sameA.core
-      (subst (λ (n : ℕ). Same M (pc m) (operandB m).core (operandB m).read (operandB m).write (operandB m).register
-      (evaluate (draftRules rules) (map unpacked (operandA m).core) (pc m) (get_or modes IR.b_mode immediate) n)) kept
-      (same_operand rules f.pos f.fits (pc m) again f.there (operandA m).core longA IR.b_mode f.sound.b-mode))
+  same_b : Same M (pc m) (operand_b m).core (operand_b m).read (operand_b m).write (operand_b m).register (Draft.operand_b (draft_rules rules) (cells m) (pc m) IR)
+  same_b =
+      subst (λ (cs : List Cell). Same M (pc m) (operand_b m).core (operand_b m).read (operand_b m).write (operand_b m).register
+      (evaluate (draft_rules rules) cs (pc m) (get_or modes IR.b_mode immediate) IR.b.0)) same_a.core
+      (subst (λ (n : ℕ). Same M (pc m) (operand_b m).core (operand_b m).read (operand_b m).write (operand_b m).register
+      (evaluate (draft_rules rules) (map unpacked (operand_a m).core) (pc m) (get_or modes IR.b_mode immediate) n)) kept
+      (same_operand rules f.pos f.fits (pc m) again f.there (operand_a m).core long_a IR.b_mode f.sound.b_mode))
 
-  target-lt : (operandB m).write < length (operandB m).core
+  target-lt : (operand_b m).write < length (operand_b m).core
   target-lt =
-      subst (λ (n : ℕ). (operandB m).write < n)
-      (sym (operand-long rules f.pos f.fits (pc m) again f.there (operandA m).core longA IR.b_mode))
-      (write-lt rules f.pos f.fits (pc m) again f.there (operandA m).core longA IR.b_mode f.sound.b-mode)
+      subst (λ (n : ℕ). (operand_b m).write < n)
+      (sym (operand-long rules f.pos f.fits (pc m) again f.there (operand_a m).core long_a IR.b_mode))
+      (write-lt rules f.pos f.fits (pc m) again f.there (operand_a m).core long_a IR.b_mode f.sound.b_mode)
 
   -- the draft's registers
   abbrev state : State
@@ -141,11 +141,11 @@ module _ (m : Machine) (f : Facts m) (none : None m) where
         M = M;
         modifier = get_or modifiers IR.modifier I;
         PC = pc m;
-        jump = (operandA m).read;
-        target = (operandB m).write;
-        IRA = (operandA m).register;
-        IRB = (operandB m).register;
-        core = map unpacked (operandB m).core;
+        jump = (operand_a m).read;
+        target = (operand_b m).write;
+        IRA = (operand_a m).register;
+        IRB = (operand_b m).register;
+        core = map unpacked (operand_b m).core;
       }
 
   abbrev done : Done
@@ -154,36 +154,36 @@ module _ (m : Machine) (f : Facts m) (none : None m) where
   drafted-is : drafted m ≡ done
   unfolding Draft.step
   drafted-is =
-      ap (obey (draftRules rules) (cells m) (pc m)) (reads m.core (pc m))
+      ap (obey (draft_rules rules) (cells m) (pc m)) (reads m.core (pc m))
       ∙ ap (execute (get_or opcodes IR.opcode NOP))
       (λ i. record {
         M = M;
         modifier = get_or modifiers IR.modifier I;
         PC = pc m;
-        jump = sameA.read i;
-        target = sameB.write i;
-        IRA = sameA.register i;
-        IRB = sameB.register i;
-        core = sym sameB.core i;
+        jump = same_a.read i;
+        target = same_b.write i;
+        IRA = same_a.register i;
+        IRB = same_b.register i;
+        core = sym same_b.core i;
       })
 
   -- the live cell is the register, unless B's increment hits it
-  live-is : hitsLive m ≡ false → (operandB m).register ≡ (scene m).live
-  live-is e = sym (live-register rules f.pos f.fits (pc m) again f.there (operandA m).core longA IR.b_mode f.sound.b-mode e)
+  live-is : hits_live m ≡ false → (operand_b m).register ≡ (scene m).live
+  live-is e = sym (live-register rules f.pos f.fits (pc m) again f.there (operand_a m).core long_a IR.b_mode f.sound.b_mode e)
 
   -- and so is the target, where the B pointers do not differ
-  target_is : (hitsLive m || pointersDiffer m) ≡ false → (operandB m).register ≡ (scene m).target
+  target_is : (hits_live m || pointers_differ m) ≡ false → (operand_b m).register ≡ (scene m).target
   target_is e =
-      let n = neither (hitsLive m) (pointersDiffer m) e in
-      live-is n.0 ∙ ap (cell_at (operandB m).core) (eqb-true _ _ (not-false (eqb (operandB m).read (operandB m).write) n.1))
+      let n = neither (hits_live m) (pointers_differ m) e in
+      live-is n.0 ∙ ap (cell_at (operand_b m).core) (eqb-true _ _ (not-false (eqb (operand_b m).read (operand_b m).write) n.1))
 
-  clear : Clear IR.opcode IR.modifier (operandA m).register (operandB m).register (scene m).live (scene m).target
+  clear : Clear IR.opcode IR.modifier (operand_a m).register (operand_b m).register (scene m).live (scene m).target
   clear =
-      let third = neither (comparesWhole IR && hitsLive m) (eqb IR.opcode DJN && (hitsLive m || pointersDiffer m)) none.third in
+      let third = neither (compares_whole IR && hits_live m) (eqb IR.opcode DJN && (hits_live m || pointers_differ m)) none.third in
       record {
         modes = none.second;
-        compares = λ w. live-is (missed (comparesWhole IR) (hitsLive m) w third.0);
-        counts = λ w. target_is (missed (eqb IR.opcode DJN) (hitsLive m || pointersDiffer m) w third.1);
+        compares = λ w. live-is (missed (compares_whole IR) (hits_live m) w third.0);
+        counts = λ w. target_is (missed (eqb IR.opcode DJN) (hits_live m || pointers_differ m) w third.1);
         divides = none.fourth;
         tests = none.fifth;
         twins = none.sixth;
@@ -193,16 +193,16 @@ module _ (m : Machine) (f : Facts m) (none : None m) where
       missed true y w e = e
       missed false y w e = absurd (false≢true w)
 
-  effect_is : Agree (effect m) (operandB m).core (operandB m).write done
+  effect_is : Agree (effect m) (operand_b m).core (operand_b m).write done
   unfolding effect
   effect_is =
-      same_effect M f.pos f.fits (pc m) (operandA m).read (operandA m).register (operandB m).register (scene m).live
+      same_effect M f.pos f.fits (pc m) (operand_a m).read (operand_a m).register (operand_b m).register (scene m).live
       (register-range rules f.pos f.fits (pc m) IR.a.0 f.there m.core f.long IR.a_mode) (word-range _)
-      (operandB m).core (operandB m).write target-lt IR.modifier (let h : IR.modifier ≤ 6 = f.sound.modifier in omega arith)
+      (operand_b m).core (operand_b m).write target-lt IR.modifier (let h : IR.modifier ≤ 6 = f.sound.modifier in omega arith)
       IR.opcode f.opcode clear
 
-  core_is : map unpacked (coreAfter m) ≡ (drafted m).core
-  unfolding coreAfter effect
+  core_is : map unpacked (core_after m) ≡ (drafted m).core
+  unfolding core_after effect
   core_is = effect_is.core ∙ sym (ap (λ (d : Done). d.core) drafted-is)
 
   next-is : nexts (effect m).next ≡ (drafted m).next
@@ -219,7 +219,7 @@ module _ (m : Machine) (f : Facts m) (none : None m) where
   places-are =
       places-queued (effect m).next (popped m) (counting m) (mod-lt _ (omega (arith, f.head))) (omega (arith, f.some, f.limit)) next_small
       ∙ ap₂ (λ (ps ns : List ℕ). ps ++ take (room m) ns)
-      (sym (ap (λ (es : List ℕ). drop 1 (map (λ w. (unpackedEntry w).place.0) es)) (entries-pop m f.some)))
+      (sym (ap (λ (es : List ℕ). drop 1 (map (λ w. (unpacked_entry w).place.0) es)) (entries-pop m f.some)))
       next-is
 
 -- THE THEOREM

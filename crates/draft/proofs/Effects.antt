@@ -22,9 +22,9 @@ use Rattle.cell.specs.Cells.{packed, unpacked}
 use Rattle.cell.proofs.Words.{InRange, word-range, cell-ext}
 use Rattle.machine.specs.Pointers.{less}
 use Rattle.machine.specs.Execution.{Next, ends, goes, splits, Scene, Effect, copied, computes, stored, equal, effect_of}
-use Rattle.machine.specs.Instruction.{storeTo}
+use Rattle.machine.specs.Instruction.{store_to}
 use Rattle.machine.proofs.Execution.{row, row-computes}
-use Rattle.draft.specs.Draft.{modifiers, I, opcodes, NOP, State, Done, compute, test, execute, move, arithmetic, decrementJump, jumps, skip}
+use Rattle.draft.specs.Draft.{modifiers, I, opcodes, NOP, State, Done, compute, test, execute, move, arithmetic, decrement_jump, jumps, skip}
 use Rattle.draft.specs.Draft
 use Rattle.draft.specs.Departures.{twins}
 use Rattle.draft.proofs.Cores.{stores, reads}
@@ -39,7 +39,7 @@ nexts (splits p c) = p ∷ c ∷ []
 
 -- an effect on the core of words, with its target at t, and what the draft does
 pub record Agree (e : Effect) (words : List ℕ) (t : ℕ) (d : Done) : Type 0 where
-  pub core : map unpacked (storeTo e.cell words t) ≡ d.core
+  pub core : map unpacked (store_to e.cell words t) ≡ d.core
   pub next : nexts e.next ≡ d.next
 
 -- departures 2 to 6 do not apply, told of the opcode, the modifier, the registers, the live cell and the target
@@ -129,7 +129,7 @@ module _ (M : ℕ) (pos : 0 < M) (fits : M ≤ 65536) (pc jump : ℕ) (ra rb liv
         })
 
     -- DJN, where the target cell is still the register
-    is-decrement-jump : rb ≡ target → Agree (effect_of DJN (scene k)) words t (decrementJump (state k))
+    is-decrement-jump : rb ≡ target → Agree (effect_of DJN (scene k)) words t (decrement_jump (state k))
     unfolding effect_of
     is-decrement-jump q =
         record {

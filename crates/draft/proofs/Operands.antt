@@ -20,11 +20,11 @@ use Rattle.cell.specs.Cells.{unpacked, number, cell_at}
 use Rattle.offset.proofs.Offsets.{ahead-lt}
 use Rattle.cell.proofs.Words.{InRange, word-range}
 use Rattle.machine.specs.declared.Rules.{Rules}
-use Rattle.machine.specs.Pointers.{fold, located, pointed, changed, less, more, Site, siteAt, operand}
+use Rattle.machine.specs.Pointers.{fold, located, pointed, changed, less, more, Site, site_at, operand}
 use Rattle.machine.specs.Pointers as machine
 use Rattle.machine.proofs.Pointers.{length-operand, changed-other}
 use Rattle.draft.specs.Evaluation.{Operand, Fold, at, assign, modes, immediate, direct, predecrement, postincrement, decrement, evaluate, through}
-use Rattle.draft.specs.Comparison.{draftRules}
+use Rattle.draft.specs.Comparison.{draft_rules}
 use Rattle.draft.proofs.Cores.{reads, changes, changed-b}
 
 -- less than once round, a place is not met again
@@ -51,7 +51,7 @@ module _ (rules : Rules) (pos : 0 < rules.size) (fits : rules.size ≤ 65536) wh
 
   module _ (PC n : ℕ) (there : PC < M) where
     abbrev site : Site
-    site = siteAt rules PC
+    site = site_at rules PC
 
     -- the write location, and the pointers through the number of a field
     abbrev loc : ℕ
@@ -66,7 +66,7 @@ module _ (rules : Rules) (pos : 0 < rules.size) (fits : rules.size ≤ 65536) wh
     -- through the number of the cell that each chain finds
     goes_through : (f : Field) (core : List ℕ)
         → Same M PC core (reading f core) (writing f core) (cell_at core (reading f core))
-        (through (draftRules rules) (map unpacked core) PC f (Fold n rules.read M) (Fold n rules.write M))
+        (through (draft_rules rules) (map unpacked core) PC f (Fold n rules.read M) (Fold n rules.write M))
     goes_through f core = record { core = refl; read = p rules.read; write = p rules.write; register = ap (at (map unpacked core)) (p rules.read) ∙ reads core _ }
       where
         p : (limit : ℕ) → (PC + Fold (Fold n limit M + number f (at (map unpacked core) ((PC + Fold n limit M) % M))) limit M) % M ≡ pointed (machine.through f) site limit n core
@@ -76,13 +76,13 @@ module _ (rules : Rules) (pos : 0 < rules.size) (fits : rules.size ≤ 65536) wh
       inside : loc < length core
       inside = rw long (ahead-lt M PC _ pos)
 
-      is-immediate : Same M PC core PC PC (cell_at core PC) (evaluate (draftRules rules) (map unpacked core) PC immediate n)
+      is-immediate : Same M PC core PC PC (cell_at core PC) (evaluate (draft_rules rules) (map unpacked core) PC immediate n)
       is-immediate = record { core = refl; read = here; write = here; register = ap (at (map unpacked core)) here ∙ reads core PC }
         where
           here : (PC + 0) % M ≡ PC
           here = ap (λ (k : ℕ). k % M) (add-zero PC) ∙ mod-eq_of_lt there
 
-      is-direct : Same M PC core (located site rules.read n) loc (cell_at core (located site rules.read n)) (evaluate (draftRules rules) (map unpacked core) PC direct n)
+      is-direct : Same M PC core (located site rules.read n) loc (cell_at core (located site rules.read n)) (evaluate (draft_rules rules) (map unpacked core) PC direct n)
       is-direct = record { core = refl; read = refl; write = refl; register = reads core _ }
 
       module _ (f : Field) where
@@ -93,20 +93,20 @@ module _ (rules : Rules) (pos : 0 < rules.size) (fits : rules.size ≤ 65536) wh
         lowered = changed core loc f (less M held)
 
         -- the draft's decrement
-        lowers-core : map unpacked lowered ≡ decrement (draftRules rules) (map unpacked core) f loc
+        lowers-core : map unpacked lowered ≡ decrement (draft_rules rules) (map unpacked core) f loc
         lowers-core =
             changes f core loc (less M held) (small _)
             ∙ ap (λ (x : ℕ). assign f (map unpacked core) loc (x % M))
             (let e : held + (M - 1) ≡ held + M - 1 = omega arith in e ∙ ap (λ (c : Cell). number f c + M - 1) (sym (reads core loc)))
 
         is-predecrement : Same M PC lowered (reading f lowered) (writing f lowered) (cell_at lowered (reading f lowered))
-            (evaluate (draftRules rules) (map unpacked core) PC (predecrement f) n)
+            (evaluate (draft_rules rules) (map unpacked core) PC (predecrement f) n)
         is-predecrement =
             subst (λ (cs : List Cell). Same M PC lowered (reading f lowered) (writing f lowered) (cell_at lowered (reading f lowered))
-            (through (draftRules rules) cs PC f (Fold n rules.read M) (Fold n rules.write M))) lowers-core (goes_through f lowered)
+            (through (draft_rules rules) cs PC f (Fold n rules.read M) (Fold n rules.write M))) lowers-core (goes_through f lowered)
 
         is-postincrement : Same M PC (changed core loc f (more M held)) (reading f core) (writing f core) (cell_at core (reading f core))
-            (evaluate (draftRules rules) (map unpacked core) PC (postincrement f) n)
+            (evaluate (draft_rules rules) (map unpacked core) PC (postincrement f) n)
         is-postincrement =
             let t = goes_through f core in
             record {
@@ -121,7 +121,7 @@ module _ (rules : Rules) (pos : 0 < rules.size) (fits : rules.size ≤ 65536) wh
       -- the operand of each mode: # $ * @ { < } >
       pub same_operand : (mode : ℕ) → mode < 8
           → let o = operand site core mode n in
-          Same M PC o.core o.read o.write o.register (evaluate (draftRules rules) (map unpacked core) PC (get_or modes mode immediate) n)
+          Same M PC o.core o.read o.write o.register (evaluate (draft_rules rules) (map unpacked core) PC (get_or modes mode immediate) n)
       unfolding operand
       same_operand =
           below _ 8

@@ -14,7 +14,7 @@ use Rattle.laws.proofs.Every.{Every}
 use Rattle.machine.specs.declared.Entry.{Entry}
 use Rattle.machine.specs.State.{Machine}
 use Rattle.machine.specs.Names.{numbered}
-use Rattle.machine.specs.Queue.{entry, packedEntry, unpackedEntry, entries, full, push, started}
+use Rattle.machine.specs.Queue.{entry, packed_entry, unpacked_entry, entries, full, push, started}
 use Rattle.machine.specs.Execution.{Next, ends, goes, splits}
 use Rattle.machine.specs.Step.{Queued, queued}
 use Rattle.machine.proofs.Entries.{packed-place}
@@ -65,7 +65,7 @@ next-below o s pos j = go o
 places-push : (e : Entry) (m : Machine) → m.header.ring.head < length m.queue → m.header.ring.length < length m.queue → e.place.0 < 65536
     → places (push e m) ≡ places m ++ (e.place.0 ∷ [])
 places-push e m h l p =
-    ap (map (λ w. (unpackedEntry w).place.0)) (entries-push e m h l) ∙ map-append (λ w. (unpackedEntry w).place.0) (entries m) (packedEntry e ∷ [])
+    ap (map (λ w. (unpacked_entry w).place.0)) (entries-push e m h l) ∙ map-append (λ w. (unpacked_entry w).place.0) (entries m) (packed_entry e ∷ [])
     ∙ ap (λ (q : ℕ). places m ++ (q ∷ [])) (packed-place e p)
 
 places-started : (c i : ℕ) (m : Machine) → m.header.ring.head < length m.queue → m.header.ring.length < length m.queue → c < 65536

@@ -17,13 +17,13 @@ use Rattle.cell.specs.Cells.{packed, unpacked}
 use Rattle.cell.proofs.Words.{InRange, cell-ext, unpack-pack}
 use Rattle.machine.specs.Execution.{equal}
 use Rattle.machine.proofs.Execution.{row}
-use Rattle.draft.specs.Draft.{modifiers, I, test, under, oneCode, sameInstruction}
+use Rattle.draft.specs.Draft.{modifiers, I, test, under, one_code, same_instruction}
 use Rattle.draft.specs.Departures.{twins}
 use Rattle.draft.proofs.Rows.{row-test}
 
 -- codes that the draft takes for one are one, but for CMP and SEQ
-one_code : (x y : ℕ) → (eqb x CMP && eqb y SEQ || eqb x SEQ && eqb y CMP) ≡ false → oneCode x ≡ oneCode y → x ≡ y
-one_code x y n e = go (eqb x CMP) (eqb y CMP) refl refl
+one_code_lem : (x y : ℕ) → (eqb x CMP && eqb y SEQ || eqb x SEQ && eqb y CMP) ≡ false → one_code x ≡ one_code y → x ≡ y
+one_code_lem x y n e = go (eqb x CMP) (eqb y CMP) refl refl
   where
     go : (s t : Bool) → eqb x CMP ≡ s → eqb y CMP ≡ t → x ≡ y
     go true true p q = eqb-true x CMP p ∙ sym (eqb-true y CMP q)
@@ -31,19 +31,19 @@ one_code x y n e = go (eqb x CMP) (eqb y CMP) refl refl
     go false true p q = absurd (true≢false (sym (rw (p, q, eq-eqb x SEQ (rw (p, q) at e))) ∙ n))
     go false false p q = rw (p, q) at e
 
-same-cell : (c d : Cell) → twins c d ≡ false → sameInstruction c d ≡ true → c ≡ d
+same-cell : (c d : Cell) → twins c d ≡ false → same_instruction c d ≡ true → c ≡ d
 same-cell c d n e =
     let b5 = both _ (eqb c.b.0 d.b.0) e in
     let b4 = both _ (eqb c.a.0 d.a.0) b5.0 in
     let b3 = both _ (eqb c.b_mode d.b_mode) b4.0 in
     let b2 = both _ (eqb c.a_mode d.a_mode) b3.0 in
-    let b1 = both (eqb (oneCode c.opcode) (oneCode d.opcode)) (eqb c.modifier d.modifier) b2.0 in
-    cell-ext (one_code _ _ n (eqb-true _ _ b1.0)) (eqb-true _ _ b1.1) (eqb-true _ _ b2.1) (eqb-true _ _ b3.1) (eqb-true _ _ b4.1) (eqb-true _ _ b5.1)
+    let b1 = both (eqb (one_code c.opcode) (one_code d.opcode)) (eqb c.modifier d.modifier) b2.0 in
+    cell-ext (one_code_lem _ _ n (eqb-true _ _ b1.0)) (eqb-true _ _ b1.1) (eqb-true _ _ b2.1) (eqb-true _ _ b3.1) (eqb-true _ _ b4.1) (eqb-true _ _ b5.1)
 
-same_self : (c : Cell) → sameInstruction c c ≡ true
+same_self : (c : Cell) → same_instruction c c ≡ true
 same_self c =
     rw (
-      eq-eqb (oneCode c.opcode) (oneCode c.opcode) refl,
+      eq-eqb (one_code c.opcode) (one_code c.opcode) refl,
       eq-eqb c.modifier c.modifier refl,
       eq-eqb c.a_mode c.a_mode refl,
       eq-eqb c.b_mode c.b_mode refl,
@@ -54,15 +54,15 @@ same_self c =
 abbrev numbers : Cell → Cell → Bool
 numbers c d = eqb c.a.0 d.a.0 && (eqb c.b.0 d.b.0 && true)
 
-whole : (c d : Cell) → InRange c → InRange d → twins c d ≡ false → (numbers c d && eqb (packed c) (packed d)) ≡ sameInstruction c d
-whole c d r s n = iff (numbers c d && eqb (packed c) (packed d)) (sameInstruction c d) to from
+whole : (c d : Cell) → InRange c → InRange d → twins c d ≡ false → (numbers c d && eqb (packed c) (packed d)) ≡ same_instruction c d
+whole c d r s n = iff (numbers c d && eqb (packed c) (packed d)) (same_instruction c d) to from
   where
-    to : (numbers c d && eqb (packed c) (packed d)) ≡ true → sameInstruction c d ≡ true
+    to : (numbers c d && eqb (packed c) (packed d)) ≡ true → same_instruction c d ≡ true
     to e =
         let q : c ≡ d = sym (unpack-pack c r) ∙ ap unpacked (eqb-true (packed c) (packed d) (both (numbers c d) (eqb (packed c) (packed d)) e).1) ∙ unpack-pack d s in
-        subst (λ (x : Cell). sameInstruction c x ≡ true) q (same_self c)
+        subst (λ (x : Cell). same_instruction c x ≡ true) q (same_self c)
 
-    from : sameInstruction c d ≡ true → (numbers c d && eqb (packed c) (packed d)) ≡ true
+    from : same_instruction c d ≡ true → (numbers c d && eqb (packed c) (packed d)) ≡ true
     from e =
         subst (λ (x : Cell). (numbers c x && eqb (packed c) (packed x)) ≡ true) (same-cell c d n e)
         (rw (eq-eqb c.a.0 c.a.0 refl, eq-eqb c.b.0 c.b.0 refl, eq-eqb (packed c) (packed c) refl))
@@ -72,7 +72,7 @@ pub row-equal : (M pc jump : ℕ) (ra rb live target : Cell) → InRange ra → 
     → (eqb k modifier.I ≡ true → rb ≡ live)
     → (eqb k modifier.I && twins ra live) ≡ false
     → equal (record { size = M; modifier = k; pc = pc; jump = jump; ra = ra; rb = rb; live = live; target = target })
-    ≡ under (get_or modifiers k I) (sameInstruction ra rb) (test eqb (get_or modifiers k I) ra rb)
+    ≡ under (get_or modifiers k I) (same_instruction ra rb) (test eqb (get_or modifiers k I) ra rb)
 row-equal M pc jump ra rb live target r s =
     below _ 7
     (plainly 0 (lit< tt)

@@ -5,7 +5,7 @@ use Rattle.cell.specs.declared.Cell.{Cell}
 use Rattle.cell.specs.Cells.{unpacked}
 use Rattle.machine.specs.declared.Rules.{Rules}
 use Rattle.machine.specs.State.{Machine}
-use Rattle.machine.specs.Queue.{unpackedEntry, entries}
+use Rattle.machine.specs.Queue.{unpacked_entry, entries}
 use Rattle.machine.specs.Step.{pc}
 use Rattle.draft.specs.Evaluation
 use Rattle.draft.specs.Draft.{Done, step}
@@ -15,16 +15,16 @@ abbrev pub cells : Machine → List Cell
 cells m = map unpacked m.core
 
 -- the machine's rules as the draft's: M, the read limit and the write limit
-abbrev pub draftRules : Rules → Evaluation.Rules
-draftRules rules = record { M = rules.size; ReadLimit = rules.read; WriteLimit = rules.write }
+abbrev pub draft_rules : Rules → Evaluation.Rules
+draft_rules rules = record { M = rules.size; ReadLimit = rules.read; WriteLimit = rules.write }
 
 -- the draft's step of the machine's core, from the front entry's place
 abbrev pub drafted : Machine → Done
-drafted m = step (draftRules m.header.rules) (cells m) (pc m)
+drafted m = step (draft_rules m.header.rules) (cells m) (pc m)
 
 -- the places queued, in order
 abbrev pub places : Machine → List ℕ
-places m = map (λ w. (unpackedEntry w).place.0) (entries m)
+places m = map (λ w. (unpacked_entry w).place.0) (entries m)
 
 -- how many entries the process limit has room for once the front entry is popped
 abbrev pub room : Machine → ℕ

@@ -111,21 +111,21 @@ move s =
     }
 
 -- CMP is SEQ
-abbrev pub oneCode : ℕ → ℕ
-oneCode n = cond (eqb n opcode.CMP) opcode.SEQ n
+abbrev pub one_code : ℕ → ℕ
+one_code n = cond (eqb n opcode.CMP) opcode.SEQ n
 
-abbrev pub sameInstruction : Cell → Cell → Bool
-sameInstruction c d =
-    eqb (oneCode c.opcode) (oneCode d.opcode) && eqb c.modifier d.modifier
+abbrev pub same_instruction : Cell → Cell → Bool
+same_instruction c d =
+    eqb (one_code c.opcode) (one_code d.opcode) && eqb c.modifier d.modifier
     && eqb c.a_mode d.a_mode && eqb c.b_mode d.b_mode && eqb c.a.0 d.a.0 && eqb c.b.0 d.b.0
 
 -- SEQ and SNE compare the registers, under I whole instructions
 abbrev pub equal : State → Bool
-equal s = under s.modifier (sameInstruction s.IRA s.IRB) (test eqb s.modifier s.IRA s.IRB)
+equal s = under s.modifier (same_instruction s.IRA s.IRB) (test eqb s.modifier s.IRA s.IRB)
 
 -- DJN lowers the live target's numbers; it jumps when some number of IRB, lowered, is not 0
-abbrev pub decrementJump : State → Done
-decrementJump s =
+abbrev pub decrement_jump : State → Done
+decrement_jump s =
     let lowered : ℕ → ℕ = λ b. (b + s.M - 1) % s.M in
     record {
       core = compute (λ b a. some (lowered b)) s.modifier s.target s.IRA (at s.core s.target) s.core;
@@ -148,7 +148,7 @@ execute MOD s = division s (λ b a. b % a)
 execute JMP s = record { core = s.core; next = s.jump ∷ [] }
 execute JMZ s = jumps s (zeros s)
 execute JMN s = jumps s (not (zeros s))
-execute DJN s = decrementJump s
+execute DJN s = decrement_jump s
 execute SEQ s = skip s (equal s)
 execute SNE s = skip s (not (equal s))
 execute SLT s = skip s (test ltb s.modifier s.IRA s.IRB)
@@ -156,25 +156,25 @@ execute SPL s = record { core = s.core; next = (s.PC + 1) % s.M ∷ s.jump ∷ [
 execute NOP s = record { core = s.core; next = onward s }
 
 -- the A operand, then the B operand, of the instruction as fetched
-abbrev pub operandA : Rules → List Cell → ℕ → Cell → Operand
-operandA r core PC IR = evaluate r core PC (get_or modes IR.a_mode immediate) IR.a.0
+abbrev pub operand_a : Rules → List Cell → ℕ → Cell → Operand
+operand_a r core PC IR = evaluate r core PC (get_or modes IR.a_mode immediate) IR.a.0
 
-abbrev pub operandB : Rules → List Cell → ℕ → Cell → Operand
-operandB r core PC IR = evaluate r (operandA r core PC IR).core PC (get_or modes IR.b_mode immediate) IR.b.0
+abbrev pub operand_b : Rules → List Cell → ℕ → Cell → Operand
+operand_b r core PC IR = evaluate r (operand_a r core PC IR).core PC (get_or modes IR.b_mode immediate) IR.b.0
 
 abbrev pub state : Rules → List Cell → ℕ → Cell → State
 state r core PC IR =
-    let oA = operandA r core PC IR in
-    let oB = operandB r core PC IR in
+    let o_a = operand_a r core PC IR in
+    let o_b = operand_b r core PC IR in
     record {
       M = r.M;
       modifier = get_or modifiers IR.modifier I;
       PC = PC;
-      jump = (PC + oA.RP) % r.M;
-      target = (PC + oB.WP) % r.M;
-      IRA = oA.register;
-      IRB = oB.register;
-      core = oB.core;
+      jump = (PC + o_a.RP) % r.M;
+      target = (PC + o_b.WP) % r.M;
+      IRA = o_a.register;
+      IRB = o_b.register;
+      core = o_b.core;
     }
 
 abbrev pub obey : Rules → List Cell → ℕ → Cell → Done

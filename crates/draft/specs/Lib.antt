@@ -1,4 +1,4 @@
-pub mod inner
+pub mod Inner
 pub mod Evaluation
 pub mod Draft
 pub mod Comparison

@@ -2,7 +2,7 @@
 #![tactic(auto)]
 
 ghost use Rattle.std.specs.Prelude.{◌≡◌, cond, ◌&&◌, ◌+◌, ◌%◌, eqb};
-ghost use Rattle.machine.specs.State.{ofSize};
+ghost use Rattle.machine.specs.State.{of_size};
 ghost use Rattle.machine.specs.Pointers as spec;
 ghost use Rattle.machine.specs.Soundness as sound;
 
@@ -11,7 +11,7 @@ use offset::Relative;
 
 // The rules of a core of that size, with both limits the size.
 pub fn of_size(size: u32) -> Rules
-    ensures { result ≡ ofSize size }
+    ensures { result ≡ of_size size }
 {
     Rules {
         size,
@@ -35,7 +35,7 @@ fn divides(limit: u32, size: u32) -> bool
 
 // Whether both limits divide the core's size.
 pub fn valid_limits(rules: Rules) -> bool
-    ensures { result ≡ sound.validLimits rules }
+    ensures { result ≡ sound.valid_limits rules }
 {
     if !divides(rules.read, rules.size) {
         return false;

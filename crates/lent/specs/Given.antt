@@ -2,7 +2,7 @@
 -- Believed. Assumes nothing.
 use Rattle.std.specs.Prelude.{ℕ}
 use Rattle.answer.specs.Numbers.{Told}
-use Rattle.machine.specs.State.{Machine, Outcome, toldBy}
+use Rattle.machine.specs.State.{Machine, Outcome, told_by}
 
 -- the answer, the writes and the steps that it carries, and the record afterwards
 pub record Given : Type 0 where
@@ -15,5 +15,5 @@ abbrev pub given : Told → ℕ → ℕ → Machine → Given
 given told writes steps m = record { told = told; writes = writes; steps = steps; machine = m }
 
 -- the same of an outcome
-abbrev pub givenBy : Outcome → Given
-givenBy o = given (toldBy o) o.writes o.steps o.machine
+abbrev pub given_by : Outcome → Given
+given_by o = given (told_by o) o.writes o.steps o.machine

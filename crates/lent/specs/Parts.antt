@@ -6,7 +6,7 @@ use Rattle.machine.specs.declared.Header.{Header}
 use Rattle.machine.specs.declared.Ring.{Ring}
 use Rattle.machine.specs.declared.Roster.{Roster}
 use Rattle.machine.specs.declared.Rules.{Rules}
-use Rattle.machine.specs.State.{ofSize, Machine}
+use Rattle.machine.specs.State.{of_size, Machine}
 use Rattle.machine.specs.Names.{register}
 use Rattle.machine.specs.Queue.{full, push, started}
 
@@ -19,8 +19,8 @@ abbrev pub names_of : ℕ → List ℕ → List ℕ → Roster
 names_of held bytes lengths = record { held = held; bytes = bytes; lengths = lengths }
 
 -- a header of these parts; steps taken play no part in the queue or the names
-abbrev pub headerOf : Rules → Ring → Roster → List ℕ → List ℕ → Header
-headerOf rules ring names counts threads =
+abbrev pub header_of : Rules → Ring → Roster → List ℕ → List ℕ → Header
+header_of rules ring names counts threads =
     record { rules = rules; ring = ring; steps = 0; names = names; counts = counts; threads = threads }
 
 -- a machine from the parts that a step is lent
@@ -32,37 +32,37 @@ parts core queue rules ring steps names counts threads =
 abbrev pub unnamed : List ℕ → List ℕ → Rules → Ring → ℕ → ℕ → List ℕ → List ℕ → Machine
 unnamed core queue rules ring steps held counts threads = parts core queue rules ring steps (names_of held [] []) counts threads
 
-abbrev pub noRing : Ring
-noRing = record { head = 0; length = 0 }
+abbrev pub no_ring : Ring
+no_ring = record { head = 0; length = 0 }
 
 -- names alone, with their counts and next thread numbers
 abbrev pub named_of : Roster → List ℕ → List ℕ → Header
-named_of names counts threads = headerOf (ofSize 0) noRing names counts threads
+named_of names counts threads = header_of (of_size 0) no_ring names counts threads
 
 -- a queue alone: its memory and ring, and the counts and next thread numbers of the names
-abbrev pub queueOf : List ℕ → Ring → List ℕ → List ℕ → Machine
-queueOf queue ring counts threads = machine_of [] queue (headerOf (ofSize 0) ring (names_of 0 [] []) counts threads)
+abbrev pub queue_of : List ℕ → Ring → List ℕ → List ℕ → Machine
+queue_of queue ring counts threads = machine_of [] queue (header_of (of_size 0) ring (names_of 0 [] []) counts threads)
 
 -- the head lies in a queue memory of at most 65,535 entries
 abbrev pub headed : Machine → Bool
 headed m = leb (length m.queue) 65535 && ltb m.header.ring.head (length m.queue)
 
 -- there is room for an entry of the name at i, and its count can rise
-abbrev pub hasRoom : Machine → ℕ → Bool
-hasRoom m i = headed m && not (full m i) && ltb i 16 && not (eqb (get_or m.header.counts i 0) 4294967295)
+abbrev pub has_room : Machine → ℕ → Bool
+has_room m i = headed m && not (full m i) && ltb i 16 && not (eqb (get_or m.header.counts i 0) 4294967295)
 
 -- push, where there is room
-unfoldable pub pushIf : Entry → Machine → Machine
-pushIf e m = cond (hasRoom m e.name) (push e m) m
+unfoldable pub push_if : Entry → Machine → Machine
+push_if e m = cond (has_room m e.name) (push e m) m
 
 -- a process started, where there is room and a thread number left
-unfoldable pub startIf : ℕ → ℕ → Machine → Machine
-startIf place i m = cond (hasRoom m i && not (eqb (get_or m.header.threads i 0) 4294967295)) (started place i m) m
+unfoldable pub start_if : ℕ → ℕ → Machine → Machine
+start_if place i m = cond (has_room m i && not (eqb (get_or m.header.threads i 0) 4294967295)) (started place i m) m
 
 -- a name registered, where there is a slot for it
-unfoldable pub registerIf : Header → List ℕ → Header
-registerIf h name = cond (ltb h.names.held 16 && leb (length name) 32) (register h name) h
+unfoldable pub register_if : Header → List ℕ → Header
+register_if h name = cond (ltb h.names.held 16 && leb (length name) 32) (register h name) h
 
 -- a name's length byte
-abbrev pub validLength : ℕ → Bool
-validLength k = leb 1 k && leb k 32
+abbrev pub valid_length : ℕ → Bool
+valid_length k = leb 1 k && leb k 32

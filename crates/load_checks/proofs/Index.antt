@@ -12,7 +12,7 @@ use Rattle.laws.specs.Lists.{same}
 use Rattle.laws.proofs.Tables.{length-table}
 use Rattle.laws.proofs.Lowest.{lowest-le}
 use Rattle.machine.specs.declared.Header.{Header}
-use Rattle.machine.specs.Names.{name_at, names, slot, isNew, seventeenth}
+use Rattle.machine.specs.Names.{name_at, names, slot, is_new, seventeenth}
 
 -- the index of a name
 pub slot-le : (h : Header) (name : List ℕ) → slot h.names name ≤ h.names.held
@@ -21,7 +21,7 @@ slot-le h name =
     let n : length (names h.names) ≡ h.names.held = length-table (name_at h.names) 0 h.names.held in
     omega arith
 
-pub new_is : (h : Header) (name : List ℕ) {i : ℕ} → i ≡ slot h.names name → isNew h.names name ≡ eqb i h.names.held
+pub new_is : (h : Header) (name : List ℕ) {i : ℕ} → i ≡ slot h.names name → is_new h.names name ≡ eqb i h.names.held
 new_is h name e = ap (λ (k : ℕ). eqb k h.names.held) (sym e)
 
 module _ (h : Header) (name : List ℕ) {i : ℕ} (index_is : i ≡ slot h.names name) where
@@ -46,7 +46,7 @@ module _ (h : Header) (name : List ℕ) {i : ℕ} (index_is : i ≡ slot h.names
           (sym (simp (new_is h name index_is, eq-eqb i h.names.held (omega arith), eq-eqb h.names.held 16 (omega arith))) ∙ e))
       go false g = leb-false 16 i g
 
-  pub eight : (not (isNew h.names name) && eqb (get_or h.threads (slot h.names name) 0) 4294967295)
+  pub eight : (not (is_new h.names name) && eqb (get_or h.threads (slot h.names name) 0) 4294967295)
       ≡ (ltb i h.names.held && eqb (get_or h.threads i 0) 4294967295)
   eight =
       ap₂ (λ (b : Bool) (k : ℕ). not b && eqb (get_or h.threads k 0) 4294967295) (new_is h name index_is) (sym index_is)

@@ -3,8 +3,8 @@
 
 ghost use Rattle.std.specs.Prelude.{◌≡◌, ◌&&◌, [], ◌<◌, eqb, ltb, length, get_or};
 ghost use Rattle.answer.specs.Numbers.{told};
-ghost use Rattle.lent.specs.Parts.{names_of, headerOf, machine_of};
-ghost use Rattle.load_checks.specs.Refusal.{testedTold};
+ghost use Rattle.lent.specs.Parts.{names_of, header_of, machine_of};
+ghost use Rattle.load_checks.specs.Refusal.{tested_told};
 
 use answer::Answer;
 use machine::limits::LAST_NUMBER;
@@ -38,7 +38,7 @@ fn refusal_named<'a>(
     place: u32,
 ) -> Answer
     requires { 0 < length name.now }
-    ensures { told result ≡ testedTold (machine_of [] queue.now (headerOf rules ring (names_of held names.now lengths.now) [] threads.now)) name.now body.now place }
+    ensures { told result ≡ tested_told (machine_of [] queue.now (header_of rules ring (names_of held names.now lengths.now) [] threads.now)) name.now body.now place }
 {
     if held > 16 {
         return Answer::UnsoundRecord;
@@ -83,7 +83,7 @@ pub fn refusal<'a>(
     body: &[u8],
     place: u32,
 ) -> Answer
-    ensures { told result ≡ testedTold (machine_of [] queue.now (headerOf rules ring (names_of held names.now lengths.now) [] threads.now)) name.now body.now place }
+    ensures { told result ≡ tested_told (machine_of [] queue.now (header_of rules ring (names_of held names.now lengths.now) [] threads.now)) name.now body.now place }
 {
     if name.len() == 0 {
         let warrior0 = *b"Warrior0";

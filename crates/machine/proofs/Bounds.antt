@@ -16,11 +16,11 @@ use Rattle.machine.specs.declared.Ceiling.{Ceiling}
 use Rattle.machine.specs.declared.Header.{Header}
 use Rattle.machine.specs.declared.Rules.{Rules}
 use Rattle.machine.specs.State.{Machine, accepted, first}
-use Rattle.machine.specs.Names.{slot, isNew, register, registered, numbered}
+use Rattle.machine.specs.Names.{slot, is_new, register, registered, numbered}
 use Rattle.machine.specs.Queue.{pop, push, started}
 use Rattle.machine.specs.Fresh.{blank}
-use Rattle.machine.specs.Load.{loaded, loadChecks, load}
-use Rattle.machine.specs.Step.{popped, effect, counted, executed, stepChecks, step}
+use Rattle.machine.specs.Load.{loaded, load_checks, load}
+use Rattle.machine.specs.Step.{popped, effect, counted, executed, step_checks, step}
 use Rattle.machine.specs.Run.{run}
 use Rattle.machine.proofs.Checks.{passed}
 use Rattle.machine.proofs.Load.{placing, load-by-cases}
@@ -51,7 +51,7 @@ started-bounded place i m h b =
     record { steps = b.steps; threads = every_set (λ k. k ≤ 4294967295) m.header.threads i _ b.threads (omega arith) }
 
 -- a step
-pub executed-bounded : (m : Machine) → first (stepChecks m) ≡ accepted → Bounded m.header → Bounded (executed m).machine.header
+pub executed-bounded : (m : Machine) → first (step_checks m) ≡ accepted → Bounded m.header → Bounded (executed m).machine.header
 unfolding executed push counted pop
 executed-bounded m e b =
     queued-by-cases (λ q. Bounded q.machine.header) (λ p. Unit {0}) (popped m) (counting m) one
@@ -60,7 +60,7 @@ executed-bounded m e b =
     (effect m).next (any-places (effect m).next)
   where
     eight : (eqb m.header.steps 4294967295 ≡ false) × (eqb (get_or m.header.threads (popped m).name 0) 4294967295 ≡ false)
-    eight = neither _ _ (passed (stepChecks m) e).1.1.1.0
+    eight = neither _ _ (passed (step_checks m) e).1.1.1.0
 
     below : get_or m.header.threads (popped m).name 0 < 4294967295
     below = thread-below m.header (popped m).name b eight.1
@@ -78,10 +78,10 @@ pub run-bounded : (c : Ceiling) (m : Machine) → Bounded m.header → Bounded (
 run-bounded c m b = run-keeps (λ n. Bounded n.header) step-bounded c m b
 
 -- a load
-module _ (h : Header) (n : List ℕ) (b : Bounded h) (free : (not (isNew h.names n) && eqb (get_or h.threads (slot h.names n) 0) 4294967295) ≡ false) where
+module _ (h : Header) (n : List ℕ) (b : Bounded h) (free : (not (is_new h.names n) && eqb (get_or h.threads (slot h.names n) 0) 4294967295) ≡ false) where
   registered-bounded : Bounded (registered h n)
   unfolding register
-  registered-bounded = go (isNew h.names n)
+  registered-bounded = go (is_new h.names n)
     where
       go : (t : Bool) → Bounded (cond t (register h n) h)
       go true = record { steps = b.steps; threads = every_set (λ k. k ≤ 4294967295) h.threads h.names.held 0 b.threads (omega arith) }
@@ -89,9 +89,9 @@ module _ (h : Header) (n : List ℕ) (b : Bounded h) (free : (not (isNew h.names
 
   pub registered-below : get_or (registered h n).threads (slot h.names n) 0 < 4294967295
   unfolding register
-  registered-below = go (isNew h.names n) refl free
+  registered-below = go (is_new h.names n) refl free
     where
-      go : (t : Bool) → isNew h.names n ≡ t → (not t && eqb (get_or h.threads (slot h.names n) 0) 4294967295) ≡ false
+      go : (t : Bool) → is_new h.names n ≡ t → (not t && eqb (get_or h.threads (slot h.names n) 0) 4294967295) ≡ false
           → get_or (cond t (register h n) h).threads (slot h.names n) 0 < 4294967295
       go false e f = thread-below h (slot h.names n) b f
       go true e f =
@@ -100,10 +100,10 @@ module _ (h : Header) (n : List ℕ) (b : Bounded h) (free : (not (isNew h.names
           omega arith
 
 module _ (m : Machine) (given body : List ℕ) (origin place : ℕ) (b : Bounded m.header) where
-  pub loaded-bounded : first (loadChecks m given body place) ≡ accepted → Bounded (loaded m (called given) body origin place).machine.header
+  pub loaded-bounded : first (load_checks m given body place) ≡ accepted → Bounded (loaded m (called given) body origin place).machine.header
   unfolding loaded
   loaded-bounded e =
-      let free = (passed (loadChecks m given body place) e).1.1.1.1.1.1.0 in
+      let free = (passed (load_checks m given body place) e).1.1.1.1.1.1.0 in
       started-bounded _ (slot m.header.names (called given)) (placing m given body place) (registered-below m.header (called given) b free)
       (registered-bounded m.header (called given) b free)
 

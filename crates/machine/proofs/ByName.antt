@@ -8,7 +8,7 @@ use native.Mathlib.Omega.{arith}
 use lib.Dec.{eqb}
 use lib.ListN.{length, get_or}
 use borrow.Author.Tests.{leb-false, ne_eqb}
-use Rattle.laws.specs.Lists.{oneIf, same}
+use Rattle.laws.specs.Lists.{one_if, same}
 use Rattle.laws.proofs.Same.{same_refl}
 use Rattle.answer.specs.Numbers.{Told, gives}
 use Rattle.offset.specs.Offset.{ahead}
@@ -16,11 +16,11 @@ use Rattle.metadata.specs.Metadata.{called}
 use Rattle.metadata.proofs.Names.{called-valid}
 use Rattle.machine.specs.declared.Entry.{Entry}
 use Rattle.machine.specs.State.{Machine, Outcome}
-use Rattle.machine.specs.Names.{slot, isNew, numbered}
-use Rattle.machine.specs.Queue.{entry, name_of, entriesOf, front, full, pop, push, started}
+use Rattle.machine.specs.Names.{slot, is_new, numbered}
+use Rattle.machine.specs.Queue.{entry, name_of, entries_of, front, full, pop, push, started}
 use Rattle.machine.specs.Load.{origin_of, loaded}
 use Rattle.machine.specs.Execution.{Ending, dat, divisor, Next, ends, goes, splits}
-use Rattle.machine.specs.Step.{popped, pc, effect, coreAfter, Queued, queued, endTold, nextTold, executed, step, executes}
+use Rattle.machine.specs.Step.{popped, pc, effect, core_after, Queued, queued, end_told, next_told, executed, step, executes}
 use Rattle.machine.proofs.Names.{Shape, Held, count_at}
 use Rattle.machine.proofs.Soundness.{SoundHeader, counts-long, push-sound, registered-new}
 use Rattle.machine.proofs.Agreement.{Agree, pop-entries, pop-agree, pop-held, push-entries, push-agree, push-held, counted-agree, counted-entries, counted-held, started-entries, started-agree, is-registered}
@@ -31,7 +31,7 @@ use Rattle.machine.proofs.Step.{step-by-cases, Ready, ready, front-held, countin
 -- the entries of a name after the pushes of a step
 record Grown (m : Machine) (t : List ℕ) (q : Queued) : Type 0 where
   agree : Agree q.machine
-  entries : (n : List ℕ) → entriesOf q.machine n ≡ entriesOf m n + q.pushes * oneIf (same t n)
+  entries : (n : List ℕ) → entries_of q.machine n ≡ entries_of m n + q.pushes * one_if (same t n)
 
 grown : (x : Next) (e : Entry) (m : Machine) (t : List ℕ) → SoundHeader m → Held m.header e.name t → Agree m
     → m.header.ring.length < length m.queue → Grown m t (queued x e m)
@@ -58,8 +58,8 @@ grown x e m t s r a room =
 -- a step that passed its checks: of the popped entry's name one entry less, and as many more as were pushed
 pub record Stepped (m : Machine) (o : Outcome) : Type 0 where
   pub agree : Agree o.machine
-  pub had : (n : List ℕ) → oneIf (same (name_of m (front m)) n) ≤ entriesOf m n
-  pub entries : (n : List ℕ) → entriesOf o.machine n + oneIf (same (name_of m (front m)) n) ≡ entriesOf m n + o.pushes * oneIf (same (name_of m (front m)) n)
+  pub had : (n : List ℕ) → one_if (same (name_of m (front m)) n) ≤ entries_of m n
+  pub entries : (n : List ℕ) → entries_of o.machine n + one_if (same (name_of m (front m)) n) ≡ entries_of m n + o.pushes * one_if (same (name_of m (front m)) n)
 
 pub stepped : (m : Machine) → Ready m → Agree m → Stepped m (executed m)
 unfolding executed
@@ -69,15 +69,15 @@ stepped m r a =
     let one = r.entry.count in
     let g : Grown (counting m) t (queued (effect m).next (popped m) (counting m))
     = grown (effect m).next (popped m) (counting m) t (counting-sound m r)
-    (counted-held (coreAfter m) (pop m) (pop-held m t r.header held a r.some one))
-    (counted-agree (coreAfter m) (pop m) (pop-agree m t r.header held a r.some one))
+    (counted-held (core_after m) (pop m) (pop-held m t r.header held a r.some one))
+    (counted-agree (core_after m) (pop m) (pop-agree m t r.header held a r.some one))
     (counting-room m r) in
     record {
       agree = g.agree;
       had = λ n. let p = pop-entries m t r.header held a r.some one n in omega arith;
       entries = λ n.
           let p = pop-entries m t r.header held a r.some one n in
-          let c = counted-entries (coreAfter m) (pop m) n in
+          let c = counted-entries (core_after m) (pop m) n in
           let q = g.entries n in
           omega arith;
     }
@@ -85,10 +85,10 @@ stepped m r a =
 -- a load that passed its checks: one entry of its name more, and no other name held than before
 pub record Begun (m : Machine) (t : List ℕ) (m' : Machine) : Type 0 where
   pub agree : Agree m'
-  pub names : (n : List ℕ) → isNew m'.header.names n ≡ (isNew m.header.names n && not (same t n))
-  pub entries : (n : List ℕ) → entriesOf m' n ≡ entriesOf m n + oneIf (same t n)
+  pub names : (n : List ℕ) → is_new m'.header.names n ≡ (is_new m.header.names n && not (same t n))
+  pub entries : (n : List ℕ) → entries_of m' n ≡ entries_of m n + one_if (same t n)
 
-started-names : (place i : ℕ) (m : Machine) (n : List ℕ) → isNew (started place i m).header.names n ≡ isNew m.header.names n
+started-names : (place i : ℕ) (m : Machine) (n : List ℕ) → is_new (started place i m).header.names n ≡ is_new m.header.names n
 unfolding started push numbered
 started-names place i m n = refl
 
@@ -107,7 +107,7 @@ begun m given body origin place s a l =
     record {
       agree = started-agree p i n t b h g.agree room;
       names = λ x. started-names p i n x ∙ registered-new m t s l.free fits x;
-      entries = λ x. started-entries p i n t b h g.agree room x ∙ ap (λ (k : ℕ). k + oneIf (same t x)) (g.entries x);
+      entries = λ x. started-entries p i n t b h g.agree room x ∙ ap (λ (k : ℕ). k + one_if (same t x)) (g.entries x);
     }
   where
     fits : length (called given) ≤ 32
@@ -119,11 +119,11 @@ module _ (e : Entry) (m : Machine) (t : List ℕ) (s : SoundHeader m) (r : Held 
   abbrev left : ℕ
   left = get_or m.header.counts e.name 0
 
-  some_left : (x : Next) → 1 ≤ (queued x e m).pushes → eqb (entriesOf (queued x e m).machine t) 0 ≡ false
+  some_left : (x : Next) → 1 ≤ (queued x e m).pushes → eqb (entries_of (queued x e m).machine t) 0 ≡ false
   some_left x p =
-      let g : entriesOf (queued x e m).machine t ≡ entriesOf m t + (queued x e m).pushes * 1
-      = subst (λ (b : Bool). entriesOf (queued x e m).machine t ≡ entriesOf m t + (queued x e m).pushes * oneIf b) (same_refl t) ((grown x e m t s r a room).entries t) in
-      ne_eqb _ 0 (λ (z : entriesOf (queued x e m).machine t ≡ 0). let f : ⊥ = omega arith in f)
+      let g : entries_of (queued x e m).machine t ≡ entries_of m t + (queued x e m).pushes * 1
+      = subst (λ (b : Bool). entries_of (queued x e m).machine t ≡ entries_of m t + (queued x e m).pushes * one_if b) (same_refl t) ((grown x e m t s r a room).entries t) in
+      ne_eqb _ 0 (λ (z : entries_of (queued x e m).machine t ≡ 0). let f : ⊥ = omega arith in f)
 
   split-pushes : (p c : ℕ) → 1 ≤ (queued (splits p c) e m).pushes
   split-pushes p c = go (full (push (entry p e.thread e.name) m) e.name)
@@ -134,27 +134,27 @@ module _ (e : Entry) (m : Machine) (t : List ℕ) (s : SoundHeader m) (r : Held 
       go true = omega arith
       go false = omega arith
 
-  answer-left : (x : Next) → eqb (nextTold x left place).number 0 ≡ not (eqb (entriesOf (queued x e m).machine t) 0)
+  answer-left : (x : Next) → eqb (next_told x left place).number 0 ≡ not (eqb (entries_of (queued x e m).machine t) 0)
   answer-left (goes p) = rw (some_left (goes p) (omega arith))
   answer-left (splits p c) = rw (some_left (splits p c) (split-pushes p c))
   answer-left (ends x) =
       go x (eqb left 0)
       ∙ ap (λ (k : ℕ). not (eqb k 0)) (sym (count_at m.header t e.name r (counts-long m s)) ∙ a.counts t)
     where
-      go : (x : Ending) (b : Bool) → eqb (cond {A = Told} b (endTold x place) (gives 0 0)).number 0 ≡ not b
+      go : (x : Ending) (b : Bool) → eqb (cond {A = Told} b (end_told x place) (gives 0 0)).number 0 ≡ not b
       go dat true = refl
       go dat false = refl
       go divisor true = refl
       go divisor false = refl
 
-pub answered : (m : Machine) → Ready m → Agree m → eqb (executed m).number 0 ≡ not (eqb (entriesOf (executed m).machine (name_of m (front m))) 0)
+pub answered : (m : Machine) → Ready m → Agree m → eqb (executed m).number 0 ≡ not (eqb (entries_of (executed m).machine (name_of m (front m))) 0)
 unfolding executed
 answered m r a =
     let t = name_of m (front m) in
     let held = front-held m r in
     answer-left (popped m) (counting m) t (counting-sound m r)
-    (counted-held (coreAfter m) (pop m) (pop-held m t r.header held a r.some r.entry.count))
-    (counted-agree (coreAfter m) (pop m) (pop-agree m t r.header held a r.some r.entry.count))
+    (counted-held (core_after m) (pop m) (pop-held m t r.header held a r.some r.entry.count))
+    (counted-agree (core_after m) (pop m) (pop-agree m t r.header held a r.some r.entry.count))
     (counting-room m r) (pc m) (effect m).next
 
 -- both for a step that executes an instruction
@@ -165,7 +165,7 @@ module _ (m : Machine) (s : Shape m.header) (a : Agree m) where
       (λ e t. stepped m (ready m s e) a)
 
   pub step-answered : executes (step m).number ≡ true
-      → eqb (step m).number 0 ≡ not (eqb (entriesOf (step m).machine (name_of m (front m))) 0)
+      → eqb (step m).number 0 ≡ not (eqb (entries_of (step m).machine (name_of m (front m))) 0)
   step-answered =
-      step-by-cases (λ o. executes o.number ≡ true → eqb o.number 0 ≡ not (eqb (entriesOf o.machine (name_of m (front m))) 0)) m
+      step-by-cases (λ o. executes o.number ≡ true → eqb o.number 0 ≡ not (eqb (entries_of o.machine (name_of m (front m))) 0)) m
       (λ n v e x t. absurd (true≢false (sym t ∙ x))) (λ e t. answered m (ready m s e) a)

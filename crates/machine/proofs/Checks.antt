@@ -11,9 +11,9 @@ use Rattle.laws.specs.Lists.{every}
 use Rattle.laws.proofs.Tests.{both}
 use Rattle.machine.specs.State.{Machine, Outcome, Check, Verdict, accepted, refusal, first, passes, settle}
 
-abbrev pub isAccepted : Verdict → Bool
-isAccepted accepted = true
-isAccepted (refusal n v) = false
+abbrev pub is_accepted : Verdict → Bool
+is_accepted accepted = true
+is_accepted (refusal n v) = false
 
 abbrev number_in : Verdict → ℕ
 number_in accepted = 0
@@ -30,7 +30,7 @@ passed (c ∷ cs) e = go c.applies refl e (passed cs)
   where
     go : (b : Bool) → c.applies ≡ b → cond b (refusal c.number c.value) (first cs) ≡ accepted → (first cs ≡ accepted → Passes cs)
         → (c.applies ≡ false) × Passes cs
-    go true h e r = absurd (false≢true (ap isAccepted e))
+    go true h e r = absurd (false≢true (ap is_accepted e))
     go false h e r = (h, r e)
 
 -- that no row applies is also a test
@@ -43,16 +43,16 @@ accepts (c ∷ cs) e = go c.applies e (accepts cs)
     go true e r = absurd (false≢true e)
     go false e r = r e
 
-pub passes-accepted : (cs : List Check) → passes cs ≡ isAccepted (first cs)
+pub passes-accepted : (cs : List Check) → passes cs ≡ is_accepted (first cs)
 passes-accepted [] = refl
 passes-accepted (c ∷ cs) = go c.applies (passes-accepted cs)
   where
-    go : (b : Bool) → passes cs ≡ isAccepted (first cs) → (not b && passes cs) ≡ isAccepted (cond b (refusal c.number c.value) (first cs))
+    go : (b : Bool) → passes cs ≡ is_accepted (first cs) → (not b && passes cs) ≡ is_accepted (cond b (refusal c.number c.value) (first cs))
     go true r = refl
     go false r = r
 
 pub accepted-passes : (cs : List Check) → first cs ≡ accepted → passes cs ≡ true
-accepted-passes cs e = passes-accepted cs ∙ ap isAccepted e
+accepted-passes cs e = passes-accepted cs ∙ ap is_accepted e
 
 -- refused: the number is that of a row
 abbrev pub Numbers : (ℕ → Type 0) → List Check → Type 0
@@ -60,7 +60,7 @@ Numbers P [] = Unit {0}
 Numbers P (c ∷ cs) = P c.number × Numbers P cs
 
 pub number_of : (P : ℕ → Type 0) (cs : List Check) → Numbers P cs → (n v : ℕ) → first cs ≡ refusal n v → P n
-number_of P [] h n v e = absurd (true≢false (ap isAccepted e))
+number_of P [] h n v e = absurd (true≢false (ap is_accepted e))
 number_of P (c ∷ cs) h n v e = go c.applies e (number_of P cs h.1 n v)
   where
     go : (b : Bool) → cond b (refusal c.number c.value) (first cs) ≡ refusal n v → (first cs ≡ refusal n v → P n) → P n
@@ -88,7 +88,7 @@ Without k [] = Unit {0}
 Without k (c ∷ cs) = ((c.applies ≡ false) ⊎ (c.number ≡ k → ⊥)) × (c.applies ≡ false → Without k cs)
 
 pub without : (k : ℕ) (cs : List Check) → Without k cs → (n v : ℕ) → first cs ≡ refusal n v → n ≡ k → ⊥
-without k [] w n v e z = true≢false (ap isAccepted e)
+without k [] w n v e z = true≢false (ap is_accepted e)
 without k (c ∷ cs) w n v e z = go c.applies refl e w.0 (λ f e. without k cs (w.1 f) n v e z)
   where
     go : (b : Bool) → c.applies ≡ b → cond b (refusal c.number c.value) (first cs) ≡ refusal n v

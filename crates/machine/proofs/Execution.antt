@@ -118,7 +118,7 @@ module _ (s : Scene) (j : s.jump < s.size) (ra : Sound s.size s.ra) (rb : Sound 
     where
       go : (b : Bool)
           → Sound s.size (cond b (record { opcode = s.ra.opcode; modifier = s.ra.modifier; a_mode = s.target.a_mode; b_mode = s.target.b_mode; a = s.target.a; b = s.target.b }) s.target)
-      go true = record { opcode = ra.opcode; modifier = ra.modifier; a-mode = target.a-mode; b-mode = target.b-mode; a = target.a; b = target.b }
+      go true = record { opcode = ra.opcode; modifier = ra.modifier; a_mode = target.a_mode; b_mode = target.b_mode; a = target.a; b = target.b }
       go false = target
 
   -- row by row

@@ -10,18 +10,18 @@ use lib.ListN.{length, set, length-set}
 use borrow.Author.Tests.{leb-false, ltb-false, not-false}
 use Rattle.laws.proofs.Tests.{neither}
 use Rattle.laws.proofs.Every.{◌and◌, Every}
-use Rattle.cell.specs.Cells.{soundWord}
+use Rattle.cell.specs.Cells.{sound_word}
 use Rattle.offset.specs.Offset.{ahead}
-use Rattle.program.specs.Program.{instructions, lowestFault, cells}
-use Rattle.metadata.specs.Metadata.{validName, called}
+use Rattle.program.specs.Program.{instructions, lowest_fault, cells}
+use Rattle.metadata.specs.Metadata.{valid_name, called}
 use Rattle.program.proofs.Program.{cells-sound}
 use Rattle.metadata.proofs.Names.{called-valid}
 use Rattle.machine.specs.declared.Header.{Header}
 use Rattle.machine.specs.declared.Ring.{Ring}
 use Rattle.machine.specs.State.{Machine, Outcome, Verdict, accepted, refusal, first, settle}
-use Rattle.machine.specs.Names.{slot, isNew, seventeenth, register, registered, numbered}
+use Rattle.machine.specs.Names.{slot, is_new, seventeenth, register, registered, numbered}
 use Rattle.machine.specs.Queue.{slots, entries, push, started}
-use Rattle.machine.specs.Load.{placed, loaded, loadChecks, load}
+use Rattle.machine.specs.Load.{placed, loaded, load_checks, load}
 use Rattle.machine.proofs.Checks.{passed, number_of, Refused, refused}
 use Rattle.machine.proofs.Names.{Held}
 use Rattle.machine.proofs.Soundness.{SoundHeader, holding, registered-sound, registered-held, started-sound}
@@ -32,7 +32,7 @@ pub length-placed : (ws core : List ℕ) (p : ℕ) → length (placed core p ws)
 length-placed [] core p = refl
 length-placed (w ∷ ws) core p = length-placed ws (set core p w) (ahead (length core) p 1) ∙ length-set core p w
 
-pub placed-sound : (size : ℕ) (ws core : List ℕ) (p : ℕ) → Every (λ w. soundWord size w ≡ true) ws → SoundCore size core → SoundCore size (placed core p ws)
+pub placed-sound : (size : ℕ) (ws core : List ℕ) (p : ℕ) → Every (λ w. sound_word size w ≡ true) ws → SoundCore size core → SoundCore size (placed core p ws)
 placed-sound size [] core p e c = c
 placed-sound size (w ∷ ws) core p e c = placed-sound size ws (set core p w) (ahead (length core) p 1) e.1 (word_set size core p w c e.0)
 
@@ -44,7 +44,7 @@ record Renamed (h h' : Header) : Type 0 where
 
 renamed : (h : Header) (n : List ℕ) → Renamed h (registered h n)
 unfolding register
-renamed h n = go (isNew h.names n)
+renamed h n = go (is_new h.names n)
   where
     go : (b : Bool) → Renamed h (cond b (register h n) h)
     go true = record { rules = refl; ring = refl; steps = refl }
@@ -53,15 +53,15 @@ renamed h n = go (isNew h.names n)
 -- an accepted load: what its checks told
 pub record Loadable (m : Machine) (given body : List ℕ) (place : ℕ) : Type 0 where
   pub short : instructions body ≤ m.header.rules.size
-  pub lawful : ltb (lowestFault body) (instructions body) ≡ false
-  pub valid : validName given ≡ true
+  pub lawful : ltb (lowest_fault body) (instructions body) ≡ false
+  pub valid : valid_name given ≡ true
   pub inside : place < m.header.rules.size
   pub room : m.header.ring.length < length m.queue
   pub free : seventeenth m.header.names (called given) ≡ false
 
-pub loadable : (m : Machine) (given body : List ℕ) (place : ℕ) → first (loadChecks m given body place) ≡ accepted → Loadable m given body place
+pub loadable : (m : Machine) (given body : List ℕ) (place : ℕ) → first (load_checks m given body place) ≡ accepted → Loadable m given body place
 loadable m given body place e =
-    let p = passed (loadChecks m given body place) e in
+    let p = passed (load_checks m given body place) e in
     let five = neither _ _ p.1.1.1.0 in
     record {
       short = ltb-false _ _ p.1.0;
@@ -115,16 +115,16 @@ module _ (m : Machine) (given body : List ℕ) (origin place : ℕ) where
 
   -- a load is refused, and leaves the machine as it was, or it is accepted
   pub load-by-cases : (P : Outcome → Type 0)
-      → ((n v : ℕ) → first (loadChecks m given body place) ≡ refusal n v → eqb n 0 ≡ false → P (settle (refusal n v) m (loaded m (called given) body origin place)))
-      → (first (loadChecks m given body place) ≡ accepted → P (loaded m (called given) body origin place))
+      → ((n v : ℕ) → first (load_checks m given body place) ≡ refusal n v → eqb n 0 ≡ false → P (settle (refusal n v) m (loaded m (called given) body origin place)))
+      → (first (load_checks m given body place) ≡ accepted → P (loaded m (called given) body origin place))
       → P (load m given body origin place)
   unfolding load
-  load-by-cases P r a = go (first (loadChecks m given body place)) refl
+  load-by-cases P r a = go (first (load_checks m given body place)) refl
     where
-      go : (v : Verdict) → first (loadChecks m given body place) ≡ v → P (settle v m (loaded m (called given) body origin place))
+      go : (v : Verdict) → first (load_checks m given body place) ≡ v → P (settle v m (loaded m (called given) body origin place))
       go accepted e = a e
       go (refusal n v) e =
-          r n v e (number_of (λ n. eqb n 0 ≡ false) (loadChecks m given body place) (refl and refl and refl and refl and refl and refl and refl and tt) n v e)
+          r n v e (number_of (λ n. eqb n 0 ≡ false) (load_checks m given body place) (refl and refl and refl and refl and refl and refl and refl and tt) n v e)
 
   pub load-refused : eqb (load m given body origin place).number 0 ≡ false → Refused m (load m given body origin place)
   load-refused =

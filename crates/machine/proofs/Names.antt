@@ -11,13 +11,13 @@ use lib.Dec.{eqb}
 use lib.ListN.{length, get_or, take, drop, set, replicate, length-append, length-drop, length-set, length-replicate, take-append-drop}
 use lib.Seq.{sets, sets-eq, length-sets, length-take-le, drop-append-le, take-append-le, take-append_seam, drop_at, get_or-set_same, get_or-set_other, get_or-take, get_or-append_seam, take-set-lt, take-suc-set}
 use borrow.Author.Tests.{eqb-false}
-use Rattle.laws.specs.Lists.{oneIf, lowest, table, same, distinct}
+use Rattle.laws.specs.Lists.{one_if, lowest, table, same, distinct}
 use Rattle.laws.proofs.Tests.{and-true}
 use Rattle.laws.proofs.Tables.{length-table, table-snoc, table-ext}
-use Rattle.laws.proofs.Lowest.{lowest-le, lowest-hit, lowest-snoc, lowest-snoc-none, getD-lowest-snoc}
+use Rattle.laws.proofs.Lowest.{lowest-le, lowest-hit, lowest-snoc, lowest-snoc-none, get_or-lowest-snoc}
 use Rattle.laws.proofs.Same.{same_true, same_refl, same-sym, lowest-own}
 use Rattle.machine.specs.declared.Header.{Header}
-use Rattle.machine.specs.Names.{name_at, names, slot, isNew, count_of, register}
+use Rattle.machine.specs.Names.{name_at, names, slot, is_new, count_of, register}
 
 -- the lengths of the header's arrays, which the program has by their types
 pub record Shape (h : Header) : Type 0 where
@@ -103,7 +103,7 @@ module _ (h : Header) (n : List ℕ) (s : Shape h) (small : h.names.held < 16) (
   count-register short x =
       ap₂ (λ (l : List ℕ) (ns : List (List ℕ)). get_or l (lowest (same x) ns) 0)
       (take-held h h.counts 0 (omega (arith, s.counts))) (names-register short)
-      ∙ getD-lowest-snoc (same x) (names h.names) (take h.names.held h.counts) n
+      ∙ get_or-lowest-snoc (same x) (names h.names) (take h.names.held h.counts) n
       (length-names h ∙ sym (length-take-le h.names.held h.counts (omega (arith, s.counts))))
 
 -- the name t is held, at index i
@@ -117,7 +117,7 @@ pub held_at : (h : Header) (i : ℕ) → distinct (names h.names) ≡ true → i
 held_at h i d k = record { below = k; own = lowest-own (names h.names) i d (rw (length-names h) k); at = refl }
 
 -- a name that is not new is held at its slot
-pub held-slot : (h : Header) (n : List ℕ) → isNew h.names n ≡ false → Held h (slot h.names n) n
+pub held-slot : (h : Header) (n : List ℕ) → is_new h.names n ≡ false → Held h (slot h.names n) n
 held-slot h n e =
     record { below = below; own = refl; at = sym (same_true n _ (lowest-hit (same n) (names h.names) [] (rw (length-names h) below))) }
   where
@@ -139,7 +139,7 @@ held-register h n news e =
 
 -- the names that are new after registering t: those that were, but for t
 pub new-register : (h : Header) (t : List ℕ) → names (register h t).names ≡ names h.names ++ (t ∷ []) → (n : List ℕ)
-    → isNew (register h t).names n ≡ (isNew h.names n && not (same t n))
+    → is_new (register h t).names n ≡ (is_new h.names n && not (same t n))
 unfolding register
 new-register h t news n =
     ap₂ (λ (l : List (List ℕ)) (k : ℕ). eqb (lowest (same n) l) k) news (add-one h.names.held ∙ ap suc (sym (length-names h)))
@@ -147,12 +147,12 @@ new-register h t news n =
     ∙ ap₂ (λ (k : ℕ) (b : Bool). eqb (slot h.names n) k && not b) (length-names h) (same-sym n t)
 
 -- a held name is not
-pub held-not-new : (h : Header) (t : List ℕ) → isNew h.names t ≡ false → (n : List ℕ) → isNew h.names n ≡ (isNew h.names n && not (same t n))
+pub held-not-new : (h : Header) (t : List ℕ) → is_new h.names t ≡ false → (n : List ℕ) → is_new h.names n ≡ (is_new h.names n && not (same t n))
 held-not-new h t e n = go (same t n) refl
   where
-    go : (b : Bool) → same t n ≡ b → isNew h.names n ≡ (isNew h.names n && not b)
+    go : (b : Bool) → same t n ≡ b → is_new h.names n ≡ (is_new h.names n && not b)
     go true f = rw (← same_true t n f, e)
-    go false f = sym (and-true (isNew h.names n))
+    go false f = sym (and-true (is_new h.names n))
 
 -- the count at the slot of t, set
 module _ (h : Header) (t : List ℕ) (i : ℕ) (r : Held h i t) (long : h.names.held ≤ length h.counts) where
@@ -183,17 +183,17 @@ module _ (h : Header) (t : List ℕ) (i : ℕ) (r : Held h i t) (long : h.names.
   count-own n e = ap (count_of h) (sym (same_true t n e)) ∙ count_at
 
   pub count-lower : (n : List ℕ) → 1 ≤ get_or h.counts i 0
-      → get_or (take h.names.held (set h.counts i (get_or h.counts i 0 - 1))) (slot h.names n) 0 + oneIf (same t n) ≡ count_of h n
-  count-lower n pos = ap (λ (k : ℕ). k + oneIf (same t n)) (count_set n (get_or h.counts i 0 - 1)) ∙ go (same t n) refl
+      → get_or (take h.names.held (set h.counts i (get_or h.counts i 0 - 1))) (slot h.names n) 0 + one_if (same t n) ≡ count_of h n
+  count-lower n pos = ap (λ (k : ℕ). k + one_if (same t n)) (count_set n (get_or h.counts i 0 - 1)) ∙ go (same t n) refl
     where
-      go : (b : Bool) → same t n ≡ b → cond b (get_or h.counts i 0 - 1) (count_of h n) + oneIf b ≡ count_of h n
+      go : (b : Bool) → same t n ≡ b → cond b (get_or h.counts i 0 - 1) (count_of h n) + one_if b ≡ count_of h n
       go true e = rw (count-own n e) (omega arith)
       go false e = omega arith
 
   pub count-raise : (n : List ℕ)
-      → get_or (take h.names.held (set h.counts i (get_or h.counts i 0 + 1))) (slot h.names n) 0 ≡ count_of h n + oneIf (same t n)
+      → get_or (take h.names.held (set h.counts i (get_or h.counts i 0 + 1))) (slot h.names n) 0 ≡ count_of h n + one_if (same t n)
   count-raise n = count_set n (get_or h.counts i 0 + 1) ∙ go (same t n) refl
     where
-      go : (b : Bool) → same t n ≡ b → cond b (get_or h.counts i 0 + 1) (count_of h n) ≡ count_of h n + oneIf b
+      go : (b : Bool) → same t n ≡ b → cond b (get_or h.counts i 0 + 1) (count_of h n) ≡ count_of h n + one_if b
       go true e = rw (count-own n e)
       go false e = omega arith

@@ -13,8 +13,8 @@ use Rattle.offset.proofs.Offsets.{euclid-lt}
 use Rattle.machine.specs.declared.Ceiling.{Ceiling}
 use Rattle.machine.specs.State.{Machine}
 use Rattle.machine.specs.Queue.{front}
-use Rattle.machine.specs.Load.{loadChecks, load}
-use Rattle.machine.specs.Step.{pc, stepChecks, step, executes}
+use Rattle.machine.specs.Load.{load_checks, load}
+use Rattle.machine.specs.Step.{pc, step_checks, step, executes}
 use Rattle.machine.specs.Run.{run, read}
 use Rattle.machine.proofs.Checks.{other, Without, others, without}
 use Rattle.machine.proofs.Soundness.{header-sound, size-positive, entry-sound}
@@ -25,7 +25,7 @@ use Rattle.machine.proofs.Run.{run-answers}
 use Rattle.machine.proofs.SoundMachine.{SoundMachine, sound-ready, step_keeps}
 
 module _ (m : Machine) (s : SoundMachine m) where
-  step-without-nine : Without 9 (stepChecks m)
+  step-without-nine : Without 9 (step_checks m)
   step-without-nine =
       inl (ap not (header-sound m s.header))
       and λ a. inr (other tt)
@@ -40,17 +40,17 @@ module _ (m : Machine) (s : SoundMachine m) where
 
   pub step-not-nine : (step m).number ≡ 9 → ⊥
   step-not-nine =
-      step-by-cases (λ o. o.number ≡ 9 → ⊥) m (λ n v e x. without 9 (stepChecks m) step-without-nine n v e)
+      step-by-cases (λ o. o.number ≡ 9 → ⊥) m (λ n v e x. without 9 (step_checks m) step-without-nine n v e)
       (λ e z. true≢false (sym (is-executed m).executes ∙ ap executes z))
 
-  load-without-nine : (given body : List ℕ) (place : ℕ) → Without 9 (loadChecks m given body place)
+  load-without-nine : (given body : List ℕ) (place : ℕ) → Without 9 (load_checks m given body place)
   load-without-nine given body place =
-      inl (ap not (header-sound m s.header)) and λ a. others 9 (drop 1 (loadChecks m given body place)) refl
+      inl (ap not (header-sound m s.header)) and λ a. others 9 (drop 1 (load_checks m given body place)) refl
 
   pub load-not-nine : (given body : List ℕ) (origin place : ℕ) → (load m given body origin place).number ≡ 9 → ⊥
   load-not-nine given body origin place =
       load-by-cases m given body origin place (λ o. o.number ≡ 9 → ⊥)
-      (λ n v e x. without 9 (loadChecks m given body place) (load-without-nine given body place) n v e)
+      (λ n v e x. without 9 (load_checks m given body place) (load-without-nine given body place) n v e)
       (λ e. other (rw (is-loaded m given body origin place).number tt))
 
 pub run-not-nine : (c : Ceiling) (m : Machine) → SoundMachine m → (run c m).number ≡ 9 → ⊥

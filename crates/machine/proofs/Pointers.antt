@@ -13,7 +13,7 @@ use Rattle.laws.specs.Lists.{every}
 use Rattle.laws.proofs.Every.{Every, every-at, every_set}
 use Rattle.cell.specs.declared.Cell.{Cell}
 use Rattle.types.specs.Types.{Field, A, B}
-use Rattle.cell.specs.Cells.{packed, unpacked, soundWord, number, with_number, cell_at}
+use Rattle.cell.specs.Cells.{packed, unpacked, sound_word, number, with_number, cell_at}
 use Rattle.offset.proofs.Offsets.{ahead-lt}
 use Rattle.cell.proofs.Words.{word-range, with-range, unpack-pack}
 use Rattle.cell.proofs.Soundness.{Sound, sound-fields, fields-sound}
@@ -70,19 +70,19 @@ operand-writes s core mode n = shifted_one (get_or shifts mode keeps) (located s
 pub record SoundCore (size : ℕ) (core : List ℕ) : Type 0 where
   pub small : size ≤ 65536
   pub length : length core ≡ size
-  pub cells : Every (λ w. soundWord size w ≡ true) core
+  pub cells : Every (λ w. sound_word size w ≡ true) core
 
 module _ (size : ℕ) where
-  pub cell-at : (core : List ℕ) → SoundCore size core → (i : ℕ) → i < size → soundWord size (get_or core i 0) ≡ true
-  cell-at core c i h = every-at (λ w. soundWord size w ≡ true) core i 0 c.cells (rw c.length h)
+  pub cell-at : (core : List ℕ) → SoundCore size core → (i : ℕ) → i < size → sound_word size (get_or core i 0) ≡ true
+  cell-at core c i h = every-at (λ w. sound_word size w ≡ true) core i 0 c.cells (rw c.length h)
 
   pub fields_at : (core : List ℕ) → SoundCore size core → (i : ℕ) → i < size → Sound size (cell_at core i)
   fields_at core c i h = (sound-fields size (get_or core i 0) (cell-at core c i h)).1
 
   -- a sound word put at any place
-  pub word_set : (core : List ℕ) (i w : ℕ) → SoundCore size core → soundWord size w ≡ true → SoundCore size (set core i w)
+  pub word_set : (core : List ℕ) (i w : ℕ) → SoundCore size core → sound_word size w ≡ true → SoundCore size (set core i w)
   word_set core i w c s =
-      record { small = c.small; length = length-set core i w ∙ c.length; cells = every_set (λ w. soundWord size w ≡ true) core i w c.cells s }
+      record { small = c.small; length = length-set core i w ∙ c.length; cells = every_set (λ w. sound_word size w ≡ true) core i w c.cells s }
 
   pub cell_set : (core : List ℕ) (i : ℕ) (x : Cell) → SoundCore size core → Sound size x → SoundCore size (set core i (packed x))
   cell_set core i x c s = word_set core i (packed x) c (fields-sound size x c.small s)
@@ -92,8 +92,8 @@ module _ (size : ℕ) where
   number_lt B c s = s.b
 
   pub with-sound : (f : Field) (x : ℕ) (c : Cell) → Sound size c → x < size → Sound size (with_number f x c)
-  with-sound A x c s h = record { opcode = s.opcode; modifier = s.modifier; a-mode = s.a-mode; b-mode = s.b-mode; a = h; b = s.b }
-  with-sound B x c s h = record { opcode = s.opcode; modifier = s.modifier; a-mode = s.a-mode; b-mode = s.b-mode; a = s.a; b = h }
+  with-sound A x c s h = record { opcode = s.opcode; modifier = s.modifier; a_mode = s.a_mode; b_mode = s.b_mode; a = h; b = s.b }
+  with-sound B x c s h = record { opcode = s.opcode; modifier = s.modifier; a_mode = s.a_mode; b_mode = s.b_mode; a = s.a; b = h }
 
   changed-sound : (core : List ℕ) (l : ℕ) (f : Field) (x : ℕ) → SoundCore size core → l < size → x < size → SoundCore size (changed core l f x)
   changed-sound core l f x c hl hx = cell_set core l _ c (with-sound f x _ (fields_at core c l hl) hx)
@@ -114,7 +114,7 @@ module _ (size : ℕ) where
     pub read : o.read < size
     pub write : o.write < size
     pub register : Sound size o.register
-    pub seen : every (soundWord size) o.seen ≡ true
+    pub seen : every (sound_word size) o.seen ≡ true
 
 -- a place that is pointed to lies in the core
 pub pointed-lt : (r : Reach) (s : Site) (limit n : ℕ) (core : List ℕ) → s.pc < s.rules.size → pointed r s limit n core < s.rules.size

@@ -10,13 +10,13 @@ use native.Mathlib.Nat.{mod-eq_of_lt, mod-eq-sub-mod, mod-add-mod, mod-lt, add-z
 use native.Mathlib.Omega.{arith}
 use lib.ListN.{length, get_or, set, length-set}
 use lib.Seq.{get_or-set_same, get_or-set_other}
-use Rattle.laws.specs.Lists.{oneIf, tally}
+use Rattle.laws.specs.Lists.{one_if, tally}
 use Rattle.laws.proofs.Every.{Every, every_append}
 use Rattle.laws.proofs.Tally.{tally-append}
 use Rattle.offset.specs.Offset.{ahead}
 use Rattle.machine.specs.declared.Entry.{Entry}
 use Rattle.machine.specs.State.{Machine}
-use Rattle.machine.specs.Queue.{packedEntry, slots, entries, front, pop, push}
+use Rattle.machine.specs.Queue.{packed_entry, slots, entries, front, pop, push}
 
 -- less than once round, no slot is met again
 apart : (i n l : ℕ) → i < l → suc n < l → i ≡ ahead l i (suc n) → ⊥
@@ -50,26 +50,26 @@ entries-pop m h = ap (slots m.queue m.header.ring.head) e
 
 -- pushing adds one at the end
 pub entries-push : (e : Entry) (m : Machine) → m.header.ring.head < length m.queue → m.header.ring.length < length m.queue
-    → entries (push e m) ≡ entries m ++ (packedEntry e ∷ [])
+    → entries (push e m) ≡ entries m ++ (packed_entry e ∷ [])
 unfolding entries push
 entries-push e m h l =
-    ap (slots (set m.queue (ahead (length m.queue) m.header.ring.head m.header.ring.length) (packedEntry e)) m.header.ring.head) one
-    ∙ slots-push m.queue m.header.ring.head m.header.ring.length (packedEntry e) h l
+    ap (slots (set m.queue (ahead (length m.queue) m.header.ring.head m.header.ring.length) (packed_entry e)) m.header.ring.head) one
+    ∙ slots-push m.queue m.header.ring.head m.header.ring.length (packed_entry e) h l
   where
     one : m.header.ring.length + 1 ≡ suc m.header.ring.length
     one = omega arith
 
 module _ (m : Machine) (some : 0 < m.header.ring.length) where
-  pub tally-pop : (p : ℕ → Bool) → tally p (entries m) ≡ oneIf (p (front m)) + tally p (entries (pop m))
+  pub tally-pop : (p : ℕ → Bool) → tally p (entries m) ≡ one_if (p (front m)) + tally p (entries (pop m))
   tally-pop p = ap (tally p) (entries-pop m some)
 
   pub every-pop : (P : ℕ → Type 0) → Every P (entries m) → P (front m) × Every P (entries (pop m))
   every-pop P = subst (Every P) (entries-pop m some)
 
 module _ (e : Entry) (m : Machine) (head : m.header.ring.head < length m.queue) (room : m.header.ring.length < length m.queue) where
-  pub tally-push : (p : ℕ → Bool) → tally p (entries (push e m)) ≡ tally p (entries m) + oneIf (p (packedEntry e))
+  pub tally-push : (p : ℕ → Bool) → tally p (entries (push e m)) ≡ tally p (entries m) + one_if (p (packed_entry e))
   tally-push p =
-      ap (tally p) (entries-push e m head room) ∙ tally-append p (entries m) (packedEntry e ∷ []) ∙ ap (λ (k : ℕ). tally p (entries m) + k) (add-zero _)
+      ap (tally p) (entries-push e m head room) ∙ tally-append p (entries m) (packed_entry e ∷ []) ∙ ap (λ (k : ℕ). tally p (entries m) + k) (add-zero _)
 
-  pub every-push : (P : ℕ → Type 0) → Every P (entries m) → P (packedEntry e) → Every P (entries (push e m))
-  every-push P h x = subst (Every P) (sym (entries-push e m head room)) (every_append P (entries m) (packedEntry e ∷ []) h (x, tt))
+  pub every-push : (P : ℕ → Type 0) → Every P (entries m) → P (packed_entry e) → Every P (entries (push e m))
+  every-push P h x = subst (Every P) (sym (entries-push e m head room)) (every_append P (entries m) (packed_entry e ∷ []) h (x, tt))

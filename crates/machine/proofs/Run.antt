@@ -10,60 +10,60 @@ use borrow.Author.Tests.{eqb-true}
 use Rattle.machine.specs.declared.Ceiling.{Ceiling}
 use Rattle.machine.specs.declared.Ceiling.TheVariants.{Steps}
 use Rattle.machine.specs.State.{Machine, Outcome, done, joined, accepted, refusal, first, settle}
-use Rattle.machine.specs.Soundness.{soundHeader}
-use Rattle.machine.specs.Step.{step, stepChecks, executes}
-use Rattle.machine.specs.Run.{plays, ceilingOf, run}
+use Rattle.machine.specs.Soundness.{sound_header}
+use Rattle.machine.specs.Step.{step, step_checks, executes}
+use Rattle.machine.specs.Run.{plays, ceiling_of, run}
 use Rattle.machine.proofs.Checks.{Refused, refused}
 use Rattle.machine.proofs.Names.{Shape}
 use Rattle.machine.proofs.Soundness.{SoundHeader, header-sound}
 use Rattle.machine.proofs.Step.{is-executed, step-by-cases, step-executed, step_counts, step_value, step-fixed, ready, step-sound}
 
 -- an unsound header: 9, and nothing is done
-pub run-unsound : (c : Ceiling) (m : Machine) → soundHeader m ≡ false → run c m ≡ settle (refusal 9 0) m (plays (ceilingOf c - m.header.steps) m)
+pub run-unsound : (c : Ceiling) (m : Machine) → sound_header m ≡ false → run c m ≡ settle (refusal 9 0) m (plays (ceiling_of c - m.header.steps) m)
 unfolding run
 run-unsound c m e = rw e
 
-step-unsound : (m : Machine) (o : Outcome) → soundHeader m ≡ false → step m ≡ settle (refusal 9 0) m o
+step-unsound : (m : Machine) (o : Outcome) → sound_header m ≡ false → step m ≡ settle (refusal 9 0) m o
 unfolding step
 step-unsound m o e = rw e
 
-pub run-refused : (c : Ceiling) (m : Machine) → soundHeader m ≡ false → Refused m (run c m)
-run-refused c m e = rw (run-unsound c m e) (refused 9 0 m (plays (ceilingOf c - m.header.steps) m))
+pub run-refused : (c : Ceiling) (m : Machine) → sound_header m ≡ false → Refused m (run c m)
+run-refused c m e = rw (run-unsound c m e) (refused 9 0 m (plays (ceiling_of c - m.header.steps) m))
 
 -- a sound one: its steps
-pub run-plays : (c : Ceiling) (m : Machine) → soundHeader m ≡ true → run c m ≡ plays (ceilingOf c - m.header.steps) m
+pub run-plays : (c : Ceiling) (m : Machine) → sound_header m ≡ true → run c m ≡ plays (ceiling_of c - m.header.steps) m
 unfolding run
 run-plays c m e = rw e
 
 module _ (c : Ceiling) (m : Machine) where
   -- the ceiling is reached: nothing is done
-  pub run-done : soundHeader m ≡ true → ceilingOf c ≤ m.header.steps
+  pub run-done : sound_header m ≡ true → ceiling_of c ≤ m.header.steps
       → run c m ≡ done m 0 0
   run-done e h = run-plays c m e ∙ ap (λ (k : ℕ). plays k m) none
     where
-      none : ceilingOf c - m.header.steps ≡ 0
+      none : ceiling_of c - m.header.steps ≡ 0
       none = omega arith
 
   abbrev rest : Outcome
-  rest = plays (ceilingOf c - (m.header.steps + 1)) (step m).machine
+  rest = plays (ceiling_of c - (m.header.steps + 1)) (step m).machine
 
-  run-suc : soundHeader m ≡ true → m.header.steps < ceilingOf c → run c m ≡ cond (eqb (step m).number 0) (joined (step m) rest) (step m)
+  run-suc : sound_header m ≡ true → m.header.steps < ceiling_of c → run c m ≡ cond (eqb (step m).number 0) (joined (step m) rest) (step m)
   run-suc e h = run-plays c m e ∙ ap (λ (k : ℕ). plays k m) one
     where
-      one : ceilingOf c - m.header.steps ≡ suc (ceilingOf c - (m.header.steps + 1))
+      one : ceiling_of c - m.header.steps ≡ suc (ceiling_of c - (m.header.steps + 1))
       one = omega arith
 
   -- the first answer not 0 ends it
-  pub run-stop : m.header.steps < ceilingOf c → eqb (step m).number 0 ≡ false → run c m ≡ step m
-  run-stop h e = go (soundHeader m) refl
+  pub run-stop : m.header.steps < ceiling_of c → eqb (step m).number 0 ≡ false → run c m ≡ step m
+  run-stop h e = go (sound_header m) refl
     where
-      go : (b : Bool) → soundHeader m ≡ b → run c m ≡ step m
+      go : (b : Bool) → sound_header m ≡ b → run c m ≡ step m
       go true s = run-suc s h ∙ ap (λ (b : Bool). cond b (joined (step m) rest) (step m)) e
-      go false s = run-unsound c m s ∙ sym (step-unsound m (plays (ceilingOf c - m.header.steps) m) s)
+      go false s = run-unsound c m s ∙ sym (step-unsound m (plays (ceiling_of c - m.header.steps) m) s)
 
 -- with a ceiling of one more step it is that step
 pub run-one : (m : Machine) → run (Steps (m.header.steps + 1)) m ≡ step m
-run-one m = go (eqb (step m).number 0) (soundHeader m) refl refl
+run-one m = go (eqb (step m).number 0) (sound_header m) refl refl
   where
     below : m.header.steps < m.header.steps + 1
     below = omega arith
@@ -82,7 +82,7 @@ run-one m = go (eqb (step m).number 0) (soundHeader m) refl refl
           pushes = add-zero (step m).pushes i;
         }
 
-    go : (done sound : Bool) → eqb (step m).number 0 ≡ done → soundHeader m ≡ sound → run (Steps (m.header.steps + 1)) m ≡ step m
+    go : (done sound : Bool) → eqb (step m).number 0 ≡ done → sound_header m ≡ sound → run (Steps (m.header.steps + 1)) m ≡ step m
     go false s e f = run-stop (Steps (m.header.steps + 1)) m below e
     go true false e f = run-unsound (Steps (m.header.steps + 1)) m f ∙ sym (step-unsound m (plays ((m.header.steps + 1) - m.header.steps) m) f)
     go true true e f =
@@ -92,12 +92,12 @@ run-one m = go (eqb (step m).number 0) (soundHeader m) refl refl
         ∙ alone (eqb-true (step m).number 0 e)
 
 -- else it goes on from where the step left the machine
-pub run_on : (c : Ceiling) (m : Machine) → Shape m.header → m.header.steps < ceilingOf c → eqb (step m).number 0 ≡ true
+pub run_on : (c : Ceiling) (m : Machine) → Shape m.header → m.header.steps < ceiling_of c → eqb (step m).number 0 ≡ true
     → run c m ≡ joined (step m) (run c (step m).machine)
 run_on c m s h e =
     run-suc c m (header-sound m sound) h
     ∙ ap (λ (b : Bool). cond b (joined (step m) (rest c m)) (step m)) e
-    ∙ ap (λ (k : ℕ). joined (step m) (plays (ceilingOf c - k) (step m).machine)) (sym steps)
+    ∙ ap (λ (k : ℕ). joined (step m) (plays (ceiling_of c - k) (step m).machine)) (sym steps)
     ∙ ap (joined (step m)) (sym (run-plays c (step m).machine (header-sound (step m).machine (step-sound m sound))))
   where
     zero_number : (step m).number ≡ 0
@@ -125,10 +125,10 @@ module _ (P : Machine → Type 0) (kept : (m : Machine) → P m → P (step m).m
 
   pub run-keeps : (c : Ceiling) (m : Machine) → P m → P (run c m).machine
   unfolding run
-  run-keeps c m h = go (soundHeader m)
+  run-keeps c m h = go (sound_header m)
     where
-      go : (b : Bool) → P (settle (cond (not b) (refusal 9 0) accepted) m (plays (ceilingOf c - m.header.steps) m)).machine
-      go true = plays-keeps (ceilingOf c - m.header.steps) m h
+      go : (b : Bool) → P (settle (cond (not b) (refusal 9 0) accepted) m (plays (ceiling_of c - m.header.steps) m)).machine
+      go true = plays-keeps (ceiling_of c - m.header.steps) m h
       go false = h
 
   -- and what holds of 0 and of every step's answer holds of a run's
@@ -142,8 +142,8 @@ module _ (P : Machine → Type 0) (kept : (m : Machine) → P m → P (step m).m
         go true x y = y
         go false x y = x
 
-    pub run-answers : (c : Ceiling) (m : Machine) → soundHeader m ≡ true → P m → Q (run c m).number
-    run-answers c m e h = rw (run-plays c m e) (plays-answers (ceilingOf c - m.header.steps) m h)
+    pub run-answers : (c : Ceiling) (m : Machine) → sound_header m ≡ true → P m → Q (run c m).number
+    run-answers c m e h = rw (run-plays c m e) (plays-answers (ceiling_of c - m.header.steps) m h)
 
 -- the rules and the names stay
 pub run-fixed : (c : Ceiling) (m : Machine) → ((run c m).machine.header.rules ≡ m.header.rules) × ((run c m).machine.header.names ≡ m.header.names)
@@ -168,10 +168,10 @@ plays-counts (suc k) m = go (eqb (step m).number 0) one (plays-counts k (step m)
 
 pub run-counts : (c : Ceiling) (m : Machine) → (run c m).machine.header.steps ≡ m.header.steps + (run c m).steps
 unfolding run
-run-counts c m = go (soundHeader m)
+run-counts c m = go (sound_header m)
   where
     k : ℕ
-    k = ceilingOf c - m.header.steps
+    k = ceiling_of c - m.header.steps
 
     go : (b : Bool) → (settle (cond (not b) (refusal 9 0) accepted) m (plays k m)).machine.header.steps
         ≡ m.header.steps + (settle (cond (not b) (refusal 9 0) accepted) m (plays k m)).steps
@@ -185,7 +185,7 @@ step-counts-one m z k = let c : (step m).steps ≡ 1 = (step-executed m (ap exec
 -- a refusal inside a run: a row applies to the step which it would take next, and up to there the steps are answered 0 and leave the same machine
 abbrev pub RefusedInside : Machine → Outcome → Type 0
 RefusedInside m o =
-    (first (stepChecks o.machine) ≡ refusal o.number o.value) × ((plays o.steps m).number ≡ 0) × (o.machine ≡ (plays o.steps m).machine)
+    (first (step_checks o.machine) ≡ refusal o.number o.value) × ((plays o.steps m).number ≡ 0) × (o.machine ≡ (plays o.steps m).machine)
 
 pub plays-refused : (k : ℕ) (m : Machine) → executes (plays k m).number ≡ false → RefusedInside m (plays k m)
 plays-refused zero m f = absurd (true≢false f)
@@ -204,7 +204,7 @@ plays-refused (suc k) m f = go (eqb (step m).number 0) refl f (plays-refused k (
         → RefusedInside m (cond b (joined (step m) rest) (step m))
     go true z f r =
         let d : (step m).number ≡ 0 = eqb-true _ _ z in
-        subst (λ (s : ℕ). (first (stepChecks rest.machine) ≡ refusal rest.number rest.value) × ((plays s m).number ≡ 0) × (rest.machine ≡ (plays s m).machine))
+        subst (λ (s : ℕ). (first (step_checks rest.machine) ≡ refusal rest.number rest.value) × ((plays s m).number ≡ 0) × (rest.machine ≡ (plays s m).machine))
         (sym (step-counts-one m d rest.steps))
         ((r f).0, rw z (r f).1, rw z (r f).2)
     go false z f r = at_once f

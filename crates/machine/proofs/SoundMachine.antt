@@ -12,7 +12,7 @@ use Rattle.laws.specs.Lists.{same}
 use Rattle.laws.proofs.Tests.{both}
 use Rattle.laws.proofs.Every.{Every, every-replicate}
 use Rattle.laws.proofs.Same.{same_refl}
-use Rattle.cell.specs.Cells.{freshCell, soundWord}
+use Rattle.cell.specs.Cells.{fresh_cell, sound_word}
 use Rattle.offset.specs.Offset.{ahead}
 use Rattle.offset.proofs.Offsets.{ahead-lt}
 use Rattle.metadata.specs.Metadata.{called}
@@ -21,12 +21,12 @@ use Rattle.machine.specs.declared.Entry.{Entry}
 use Rattle.machine.specs.declared.Rules.{Rules}
 use Rattle.machine.specs.State.{Machine, accepted, first}
 use Rattle.machine.specs.Names.{slot, numbered}
-use Rattle.machine.specs.Queue.{entry, packedEntry, unpackedEntry, entries, name_of, entriesOf, front, pop, push, started}
-use Rattle.machine.specs.Soundness.{freshChecks}
+use Rattle.machine.specs.Queue.{entry, packed_entry, unpacked_entry, entries, name_of, entries_of, front, pop, push, started}
+use Rattle.machine.specs.Soundness.{fresh_checks}
 use Rattle.machine.specs.Fresh.{fresh}
-use Rattle.machine.specs.Load.{origin_of, loaded, loadChecks, load}
+use Rattle.machine.specs.Load.{origin_of, loaded, load_checks, load}
 use Rattle.machine.specs.Execution.{Next}
-use Rattle.machine.specs.Step.{popped, effect, counted, queued, executed, stepChecks, step}
+use Rattle.machine.specs.Step.{popped, effect, counted, queued, executed, step_checks, step}
 use Rattle.machine.specs.Run.{run}
 use Rattle.machine.proofs.Checks.{accepted-passes}
 use Rattle.machine.proofs.Entries.{packed-place, packed-top}
@@ -46,7 +46,7 @@ use Rattle.machine.proofs.Run.{run-keeps}
 
 -- an entry's place is in the core, and its other bits are zero
 abbrev pub Inside : ℕ → ℕ → Type 0
-Inside size w = ((unpackedEntry w).place.0 < size) × (w / 2 ^ 52 ≡ 0)
+Inside size w = ((unpacked_entry w).place.0 < size) × (w / 2 ^ 52 ≡ 0)
 
 pub record SoundMachine (m : Machine) : Type 0 where
   pub header : SoundHeader m
@@ -56,7 +56,7 @@ pub record SoundMachine (m : Machine) : Type 0 where
   pub entries : Every (Inside m.header.rules.size) (entries m)
 
 -- a pushed entry
-packed-inside : (size : ℕ) (e : Entry) → size ≤ 65536 → e.place.0 < size → Inside size (packedEntry e)
+packed-inside : (size : ℕ) (e : Entry) → size ≤ 65536 → e.place.0 < size → Inside size (packed_entry e)
 packed-inside size e small h = (subst (λ (k : ℕ). k < size) (sym (packed-place e (omega arith))) h, packed-top e)
 
 push-inside : (e : Entry) (m : Machine) → SoundHeader m → m.header.ring.length < length m.queue → e.place.0 < m.header.rules.size
@@ -89,13 +89,13 @@ module _ (m : Machine) (s : SoundMachine m) (some : 0 < m.header.ring.length) wh
   front-inside = (every-pop m some (Inside m.header.rules.size) s.entries).0
 
   front-name : (popped m).name < m.header.names.held
-  front-name = (every-pop m some (λ w. (unpackedEntry w).name < m.header.names.held) s.agree.known).0
+  front-name = (every-pop m some (λ w. (unpacked_entry w).name < m.header.names.held) s.agree.known).0
 
   front-count : 1 ≤ get_or m.header.counts (popped m).name 0
   front-count =
       let t = name_of m (front m) in
       let held = held_at m.header (popped m).name s.header.unlike front-name in
-      let one : 1 ≤ entriesOf m t = rw (tally-pop m some (λ w. same (name_of m w) t), same_refl t) (omega arith) in
+      let one : 1 ≤ entries_of m t = rw (tally-pop m some (λ w. same (name_of m w) t), same_refl t) (omega arith) in
       let is = count_at m.header t (popped m).name held (counts-long m s.header) in
       omega (arith, s.agree.counts t)
 
@@ -111,7 +111,7 @@ executed-inside m s some =
     queued-inside (effect m).next (popped m) (counting m) (counting-sound m r) r.entry.held (counting-room m r)
     (next-places m s.core r.entry.place) (every-pop m some (Inside m.header.rules.size) s.entries).1
 
-executed-keeps : (m : Machine) → SoundMachine m → first (stepChecks m) ≡ accepted → SoundMachine (executed m).machine
+executed-keeps : (m : Machine) → SoundMachine m → first (step_checks m) ≡ accepted → SoundMachine (executed m).machine
 executed-keeps m s e =
     let some = step-some m e in
     let r = sound-ready m s some in
@@ -144,7 +144,7 @@ module _ (m : Machine) (given body : List ℕ) (origin place : ℕ) (s : SoundMa
       (rw (placing-rules m given body place) (ahead-lt m.header.rules.size place (origin_of origin) (size-positive m s.header)))
       (rw (placing-entries m given body place, placing-rules m given body place) s.entries)
 
-  loaded-keeps : first (loadChecks m given body place) ≡ accepted → SoundMachine (loaded m (called given) body origin place).machine
+  loaded-keeps : first (load_checks m given body place) ≡ accepted → SoundMachine (loaded m (called given) body origin place).machine
   loaded-keeps e =
       let l = loadable m given body place e in
       let i = is-loaded m given body origin place in
@@ -161,11 +161,11 @@ module _ (m : Machine) (given body : List ℕ) (origin place : ℕ) (s : SoundMa
 
 -- fresh makes one
 pub fresh-sound : (rules : Rules) (core queue : List ℕ) → (fresh rules core queue).number ≡ 0 → SoundMachine (fresh rules core queue).machine
-unfolding entries soundWord
+unfolding entries sound_word
 fresh-sound rules core queue ok =
     let size = rules.size in
     let a = fresh-accepted rules core queue ok in
-    let t = is-taken rules core queue (accepted-passes (freshChecks rules core queue) a.0) in
+    let t = is-taken rules core queue (accepted-passes (fresh_checks rules core queue) a.0) in
     let positive : 0 < size = leb-true _ _ (both (leb 1 size) (leb size 46341) t.size).0 in
     let top : size ≤ 46341 = leb-true _ _ (both (leb 1 size) (leb size 46341) t.size).1 in
     let some : 1 ≤ length queue = leb-true _ _ (both (leb 1 (length queue)) (leb (length queue) 65535) t.slots).0 in
@@ -174,7 +174,7 @@ fresh-sound rules core queue ok =
       header = record {
         shape = record { names = refl; lengths = refl; counts = refl; threads = refl };
         size = t.size;
-        core = length-replicate (length core) freshCell ∙ t.cells;
+        core = length-replicate (length core) fresh_cell ∙ t.cells;
         queue = rw (length-replicate {A = ℕ} (length queue) 0) t.slots;
         limits = t.limits;
         limit = omega arith;
@@ -189,8 +189,8 @@ fresh-sound rules core queue ok =
       agree = record { known = tt; counts = λ n. refl };
       core = record {
         small = omega arith;
-        length = length-replicate (length core) freshCell ∙ t.cells;
-        cells = every-replicate (λ w. soundWord size w ≡ true) (length core) freshCell (rw (lt-ltb 0 size positive));
+        length = length-replicate (length core) fresh_cell ∙ t.cells;
+        cells = every-replicate (λ w. sound_word size w ≡ true) (length core) fresh_cell (rw (lt-ltb 0 size positive));
       };
       entries = tt;
     })

@@ -15,47 +15,47 @@ use Rattle.laws.proofs.Tests.{both, neither, holds, eqb_swap}
 use Rattle.laws.proofs.Every.{every-passes, every-at, every-snoc}
 use Rattle.laws.proofs.Tally.{total-set, total-snoc}
 use Rattle.laws.proofs.Same.{distinct_snoc}
-use Rattle.metadata.specs.Metadata.{validByte}
+use Rattle.metadata.specs.Metadata.{valid_byte}
 use Rattle.machine.specs.declared.Header.{Header}
 use Rattle.machine.specs.declared.Ring.{Ring}
 use Rattle.machine.specs.declared.Rules.{Rules}
 use Rattle.machine.specs.declared.Entry.{Entry}
-use Rattle.machine.specs.State.{Machine, under, withCore, withQueue, passes}
-use Rattle.machine.specs.Names.{names, slot, isNew, seventeenth, register, registered, numbered}
-use Rattle.machine.specs.Queue.{entry, unpackedEntry, front, pop, push, started}
-use Rattle.machine.specs.Soundness.{validSize, validQueue, divides, validLimits, freshChecks, headerTests, soundHeader, soundEntry}
+use Rattle.machine.specs.State.{Machine, under, with_core, with_queue, passes}
+use Rattle.machine.specs.Names.{names, slot, is_new, seventeenth, register, registered, numbered}
+use Rattle.machine.specs.Queue.{entry, unpacked_entry, front, pop, push, started}
+use Rattle.machine.specs.Soundness.{valid_size, valid_queue, divides, valid_limits, fresh_checks, header_tests, sound_header, sound_entry}
 use Rattle.machine.specs.Step.{counted}
 use Rattle.machine.proofs.Checks.{passed, accepts}
 use Rattle.machine.proofs.Names.{Shape, register-shape, length-names, take-held, names-register, Held, held-slot, held-register, new-register, held-not-new}
 
 -- M, the memories' lengths and the limits as fresh takes them
 pub record Taken (rules : Rules) (core queue : List ℕ) : Type 0 where
-  pub size : validSize rules.size ≡ true
+  pub size : valid_size rules.size ≡ true
   pub cells : length core ≡ rules.size
-  pub slots : validQueue (length queue) ≡ true
-  pub limits : validLimits rules ≡ true
+  pub slots : valid_queue (length queue) ≡ true
+  pub limits : valid_limits rules ≡ true
 
-pub is-taken : (rules : Rules) (core queue : List ℕ) → passes (freshChecks rules core queue) ≡ true → Taken rules core queue
+pub is-taken : (rules : Rules) (core queue : List ℕ) → passes (fresh_checks rules core queue) ≡ true → Taken rules core queue
 is-taken rules core queue e =
-    let p = passed (freshChecks rules core queue) (accepts (freshChecks rules core queue) e) in
-    let two = neither (not (eqb (length core) rules.size)) (not (validQueue (length queue))) p.1.0 in
+    let p = passed (fresh_checks rules core queue) (accepts (fresh_checks rules core queue) e) in
+    let two = neither (not (eqb (length core) rules.size)) (not (valid_queue (length queue))) p.1.0 in
     record {
       size = not-false _ p.0;
       cells = eqb-true _ _ (not-false (eqb (length core) rules.size) two.0);
-      slots = not-false (validQueue (length queue)) two.1;
-      limits = not-false (validLimits rules) p.1.1.0;
+      slots = not-false (valid_queue (length queue)) two.1;
+      limits = not-false (valid_limits rules) p.1.1.0;
     }
 
-pub takes : (rules : Rules) (core queue : List ℕ) → Taken rules core queue → passes (freshChecks rules core queue) ≡ true
+pub takes : (rules : Rules) (core queue : List ℕ) → Taken rules core queue → passes (fresh_checks rules core queue) ≡ true
 takes rules core queue t = rw (t.size, eq-eqb (length core) rules.size t.cells, t.slots, t.limits)
 
 -- as four tests
 pub taken-tests : (rules : Rules) (core queue : List ℕ)
-    → passes (freshChecks rules core queue)
-    ≡ (validSize rules.size && (eqb rules.size (length core) && (validQueue (length queue) && validLimits rules)))
+    → passes (fresh_checks rules core queue)
+    ≡ (valid_size rules.size && (eqb rules.size (length core) && (valid_queue (length queue) && valid_limits rules)))
 taken-tests rules core queue =
-    go (validSize rules.size) (eqb (length core) rules.size) (validQueue (length queue)) (validLimits rules)
-    ∙ ap (λ (b : Bool). validSize rules.size && (b && (validQueue (length queue) && validLimits rules))) (eqb_swap (length core) rules.size)
+    go (valid_size rules.size) (eqb (length core) rules.size) (valid_queue (length queue)) (valid_limits rules)
+    ∙ ap (λ (b : Bool). valid_size rules.size && (b && (valid_queue (length queue) && valid_limits rules))) (eqb_swap (length core) rules.size)
   where
     go : (a b c d : Bool) → (not (not a) && (not (not b || not c) && (not (not d) && true))) ≡ (a && (b && (c && d)))
     go false b c d = refl
@@ -76,22 +76,22 @@ divisor-at-most limit size pos d =
 
 -- each test of a sound header
 pub record Tested (m : Machine) : Type 0 where
-  pub size : validSize m.header.rules.size ≡ true
+  pub size : valid_size m.header.rules.size ≡ true
   pub core : length m.core ≡ m.header.rules.size
-  pub queue : validQueue (length m.queue) ≡ true
-  pub limits : validLimits m.header.rules ≡ true
+  pub queue : valid_queue (length m.queue) ≡ true
+  pub limits : valid_limits m.header.rules ≡ true
   pub limit : m.header.ring.length ≤ length m.queue
   pub head : m.header.ring.head < length m.queue
   pub few : m.header.names.held ≤ 16
   pub lengths : every (λ k. leb 1 k && leb k 32) (take m.header.names.held m.header.names.lengths) ≡ true
-  pub bytes : every (every validByte) (names m.header.names) ≡ true
+  pub bytes : every (every valid_byte) (names m.header.names) ≡ true
   pub unlike : distinct (names m.header.names) ≡ true
   pub sum : total (take m.header.names.held m.header.counts) ≡ m.header.ring.length
 
-pub tested : (m : Machine) → soundHeader m ≡ true → Tested m
-unfolding soundHeader
+pub tested : (m : Machine) → sound_header m ≡ true → Tested m
+unfolding sound_header
 tested m e =
-    let h = holds (headerTests m) e in
+    let h = holds (header_tests m) e in
     let t = is-taken m.header.rules m.core m.queue h.0 in
     record {
       size = t.size;
@@ -110,19 +110,19 @@ tested m e =
 -- and the header's arrays
 pub record SoundHeader (m : Machine) : Type 0 where
   pub shape : Shape m.header
-  pub size : validSize m.header.rules.size ≡ true
+  pub size : valid_size m.header.rules.size ≡ true
   pub core : length m.core ≡ m.header.rules.size
-  pub queue : validQueue (length m.queue) ≡ true
-  pub limits : validLimits m.header.rules ≡ true
+  pub queue : valid_queue (length m.queue) ≡ true
+  pub limits : valid_limits m.header.rules ≡ true
   pub limit : m.header.ring.length ≤ length m.queue
   pub head : m.header.ring.head < length m.queue
   pub few : m.header.names.held ≤ 16
   pub lengths : every (λ k. leb 1 k && leb k 32) (take m.header.names.held m.header.names.lengths) ≡ true
-  pub bytes : every (every validByte) (names m.header.names) ≡ true
+  pub bytes : every (every valid_byte) (names m.header.names) ≡ true
   pub unlike : distinct (names m.header.names) ≡ true
   pub sum : total (take m.header.names.held m.header.counts) ≡ m.header.ring.length
 
-pub sound-header : (m : Machine) → Shape m.header → soundHeader m ≡ true → SoundHeader m
+pub sound-header : (m : Machine) → Shape m.header → sound_header m ≡ true → SoundHeader m
 sound-header m s e =
     let t = tested m e in
     record {
@@ -140,8 +140,8 @@ sound-header m s e =
       sum = t.sum;
     }
 
-pub header-sound : (m : Machine) → SoundHeader m → soundHeader m ≡ true
-unfolding soundHeader
+pub header-sound : (m : Machine) → SoundHeader m → sound_header m ≡ true
+unfolding sound_header
 header-sound m s =
     let t = takes m.header.rules m.core m.queue (record { size = s.size; cells = s.core; slots = s.queue; limits = s.limits }) in
     rw (t, le-leb _ _ s.limit, lt-ltb _ _ s.head, le-leb _ _ s.few, s.lengths, s.bytes, s.unlike, eq-eqb _ _ s.sum)
@@ -186,7 +186,7 @@ module _ (m : Machine) (s : SoundHeader m) where
       → length counts ≡ 16
       → total (take m.header.names.held counts) ≡ ring.length
       → length threads ≡ 16
-      → SoundHeader (withCore core (withQueue queue
+      → SoundHeader (with_core core (with_queue queue
       (record { rules = m.header.rules; ring = ring; steps = steps; names = m.header.names; counts = counts; threads = threads })
       m))
   same_names core queue ring steps counts threads c q h l k t u =
@@ -205,11 +205,11 @@ module _ (m : Machine) (s : SoundHeader m) where
         sum = t;
       }
 
-  pub pop-sound : 0 < m.header.ring.length → (unpackedEntry (front m)).name < m.header.names.held
-      → 1 ≤ get_or m.header.counts (unpackedEntry (front m)).name 0 → SoundHeader (pop m)
+  pub pop-sound : 0 < m.header.ring.length → (unpacked_entry (front m)).name < m.header.names.held
+      → 1 ≤ get_or m.header.counts (unpacked_entry (front m)).name 0 → SoundHeader (pop m)
   unfolding pop
   pop-sound some held one =
-      let i = (unpackedEntry (front m)).name in
+      let i = (unpacked_entry (front m)).name in
       let t = total-counts i (get_or m.header.counts i 0 - 1) held in
       same_names m.core m.queue _ _ _ _ s.core refl (mod-lt (m.header.ring.head + 1) (omega (arith, s.head)))
       (let l = s.limit in omega arith) (length-set m.header.counts _ _ ∙ s.shape.counts) (omega arith) s.shape.threads
@@ -228,7 +228,7 @@ module _ (m : Machine) (s : SoundHeader m) where
 
 -- the same queue memory beside another core and header
 abbrev pub holding : List ℕ → Header → Machine → Machine
-holding core h m = withCore core (under h m)
+holding core h m = with_core core (under h m)
 
 module _ (m : Machine) (s : SoundHeader m) (core : List ℕ) (c : length core ≡ m.header.rules.size) where
   -- a next thread number
@@ -238,7 +238,7 @@ module _ (m : Machine) (s : SoundHeader m) (core : List ℕ) (c : length core �
       same_names m s core m.queue _ _ _ _ c refl s.head s.limit s.shape.counts s.sum
       (length-set m.header.threads _ _ ∙ s.shape.threads)
 
-  module _ (n : List ℕ) (fits : length n ≤ 32) (some : 1 ≤ length n) (valid : every validByte n ≡ true) where
+  module _ (n : List ℕ) (fits : length n ≤ 32) (some : 1 ≤ length n) (valid : every valid_byte n ≡ true) where
     register-sound : slot m.header.names n ≡ m.header.names.held → m.header.names.held < 16 → SoundHeader (holding core (register m.header n) m)
     unfolding register
     register-sound e small =
@@ -256,16 +256,16 @@ module _ (m : Machine) (s : SoundHeader m) (core : List ℕ) (c : length core �
           lengths =
               ap (every (λ k. leb 1 k && leb k 32)) (take-held h h.names.lengths (length n) (omega (arith, s.shape.lengths)))
               ∙ every-snoc (λ k. leb 1 k && leb k 32) (take h.names.held h.names.lengths) (length n) s.lengths (rw (le-leb _ _ some, le-leb _ _ fits));
-          bytes = ap (every (every validByte)) news ∙ every-snoc (every validByte) (names h.names) n s.bytes valid;
+          bytes = ap (every (every valid_byte)) news ∙ every-snoc (every valid_byte) (names h.names) n s.bytes valid;
           unlike = ap distinct news ∙ distinct_snoc (names h.names) n s.unlike (e ∙ sym (length-names h));
           sum = ap total (take-held h h.counts 0 (omega (arith, s.shape.counts))) ∙ total-snoc (take h.names.held h.counts) ∙ s.sum;
         }
 
     -- a name, held or new
     pub registered-sound : seventeenth m.header.names n ≡ false → SoundHeader (holding core (registered m.header n) m)
-    registered-sound free = go (isNew m.header.names n) refl free
+    registered-sound free = go (is_new m.header.names n) refl free
       where
-        go : (b : Bool) → isNew m.header.names n ≡ b → (b && eqb m.header.names.held 16) ≡ false
+        go : (b : Bool) → is_new m.header.names n ≡ b → (b && eqb m.header.names.held 16) ≡ false
             → SoundHeader (holding core (cond b (register m.header n) m.header) m)
         go true e free = let k : m.header.names.held ≡ 16 → ⊥ = eqb-false _ _ free in register-sound (eqb-true _ _ e) (omega (arith, s.few))
         go false e free = same_names m s core m.queue _ _ _ _ c refl s.head s.limit s.shape.counts s.sum s.shape.threads
@@ -273,9 +273,9 @@ module _ (m : Machine) (s : SoundHeader m) (core : List ℕ) (c : length core �
 -- a registered name is held at its slot
 pub registered-held : (m : Machine) (n : List ℕ) → SoundHeader m → seventeenth m.header.names n ≡ false → length n ≤ 32
     → Held (registered m.header n) (slot m.header.names n) n
-registered-held m n s free fits = go (isNew m.header.names n) refl free
+registered-held m n s free fits = go (is_new m.header.names n) refl free
   where
-    go : (b : Bool) → isNew m.header.names n ≡ b → (b && eqb m.header.names.held 16) ≡ false
+    go : (b : Bool) → is_new m.header.names n ≡ b → (b && eqb m.header.names.held 16) ≡ false
         → Held (cond b (register m.header n) m.header) (slot m.header.names n) n
     go false e free = held-slot m.header n e
     go true e free =
@@ -284,11 +284,11 @@ registered-held m n s free fits = go (isNew m.header.names n) refl free
 
 -- and of the others no more and no fewer are new
 pub registered-new : (m : Machine) (t : List ℕ) → SoundHeader m → seventeenth m.header.names t ≡ false → length t ≤ 32
-    → (n : List ℕ) → isNew (registered m.header t).names n ≡ (isNew m.header.names n && not (same t n))
-registered-new m t s free fits n = go (isNew m.header.names t) refl free
+    → (n : List ℕ) → is_new (registered m.header t).names n ≡ (is_new m.header.names n && not (same t n))
+registered-new m t s free fits n = go (is_new m.header.names t) refl free
   where
-    go : (b : Bool) → isNew m.header.names t ≡ b → (b && eqb m.header.names.held 16) ≡ false
-        → isNew (cond b (register m.header t) m.header).names n ≡ (isNew m.header.names n && not (same t n))
+    go : (b : Bool) → is_new m.header.names t ≡ b → (b && eqb m.header.names.held 16) ≡ false
+        → is_new (cond b (register m.header t) m.header).names n ≡ (is_new m.header.names n && not (same t n))
     go false e free = held-not-new m.header t e n
     go true e free =
         let k : m.header.names.held ≡ 16 → ⊥ = eqb-false _ _ free in
@@ -304,23 +304,23 @@ started-sound place i m s held room =
 
 -- the tests of a front entry
 pub record SoundEntry (h : Header) (w : ℕ) : Type 0 where
-  pub held : (unpackedEntry w).name < h.names.held
-  pub count : 1 ≤ get_or h.counts (unpackedEntry w).name 0
-  pub place : (unpackedEntry w).place.0 < h.rules.size
+  pub held : (unpacked_entry w).name < h.names.held
+  pub count : 1 ≤ get_or h.counts (unpacked_entry w).name 0
+  pub place : (unpacked_entry w).place.0 < h.rules.size
   pub top : w / 2 ^ 52 ≡ 0
 
-pub sound-entry : (h : Header) (w : ℕ) → soundEntry h w ≡ true → SoundEntry h w
-unfolding soundEntry
+pub sound-entry : (h : Header) (w : ℕ) → sound_entry h w ≡ true → SoundEntry h w
+unfolding sound_entry
 sound-entry h w e =
-    let i = (unpackedEntry w).name in
+    let i = (unpacked_entry w).name in
     let held = ltb i h.names.held in
     let count = leb 1 (get_or h.counts i 0) in
-    let place = ltb (unpackedEntry w).place.0 h.rules.size in
+    let place = ltb (unpacked_entry w).place.0 h.rules.size in
     let p = both (held && count && place) (eqb (w / 2 ^ 52) 0) e in
     let q = both (held && count) place p.0 in
     let r = both held count q.0 in
     record { held = ltb-true _ _ r.0; count = leb-true _ _ r.1; place = ltb-true _ _ q.1; top = eqb-true _ _ p.1 }
 
-pub entry-sound : (h : Header) (w : ℕ) → SoundEntry h w → soundEntry h w ≡ true
-unfolding soundEntry
+pub entry-sound : (h : Header) (w : ℕ) → SoundEntry h w → sound_entry h w ≡ true
+unfolding sound_entry
 entry-sound h w s = rw (lt-ltb _ _ s.held, le-leb _ _ s.count, lt-ltb _ _ s.place, eq-eqb _ _ s.top)

@@ -16,15 +16,15 @@ use Rattle.cell.specs.declared.Cell.{Cell}
 use Rattle.types.specs.Types.{Field, A, B}
 use Rattle.offset.specs.Offset.{ahead}
 use Rattle.offset.proofs.Offsets.{ahead-lt}
-use Rattle.cell.specs.Cells.{soundWord, number, with_number, cell_at}
+use Rattle.cell.specs.Cells.{sound_word, number, with_number, cell_at}
 use Rattle.machine.specs.declared.Rules.{Rules}
-use Rattle.machine.specs.State.{ofSize, Machine, Outcome, check, first, settle}
-use Rattle.machine.specs.Soundness.{validSize, soundHeader}
-use Rattle.machine.specs.Pointers.{Reach, here, there, through, reaches, Shift, keeps, lowers, raises, shifts, field_of, fold, located, pointed, less, before, after, shifted, Site, siteAt, operand}
+use Rattle.machine.specs.State.{of_size, Machine, Outcome, check, first, settle}
+use Rattle.machine.specs.Soundness.{valid_size, sound_header}
+use Rattle.machine.specs.Pointers.{Reach, here, there, through, reaches, Shift, keeps, lowers, raises, shifts, field_of, fold, located, pointed, less, before, after, shifted, Site, site_at, operand}
 use Rattle.machine.specs.Execution.{effect_of}
-use Rattle.machine.specs.Instruction.{fetched, aOperand, bOperand, storeTo, stored_at, Instructed, instructedAt}
-use Rattle.machine.specs.Step.{site, effect, coreAfter, stepWritten, executedBy, checksBy, executed, step}
-use Rattle.machine.specs.Whole.{used, pointerOf, former, formerA, formerB, formerAt, formerStep, SameOperand, SameInstructed, Unlimited, Whole}
+use Rattle.machine.specs.Instruction.{fetched, a_operand, b_operand, store_to, stored_at, Instructed, instructed_at}
+use Rattle.machine.specs.Step.{site, effect, core_after, step_written, executed_by, checks_by, executed, step}
+use Rattle.machine.specs.Whole.{used, pointer_of, former, former_a, former_b, former_at, former_step, SameOperand, SameInstructed, Unlimited, Whole}
 use Rattle.machine.proofs.Pointers.{changed-same, length-operand}
 use Rattle.machine.proofs.Soundness.{tested}
 
@@ -48,7 +48,7 @@ twice false y = refl
 
 module _ (size pc n : ℕ) where
   abbrev whole-site : Site
-  whole-site = siteAt (ofSize size) pc
+  whole-site = site_at (of_size size) pc
 
   abbrev location : ℕ
   location = ahead size pc n
@@ -75,7 +75,7 @@ module _ (size pc n : ℕ) where
     found-is raises f = refl
 
     pointed-is : (t : Shift) (r : Reach)
-        → pointed r whole-site size n (lowered t (field_of r)) ≡ pointerOf r size pc location (used t size (number (field_of r) (cell_at core location)))
+        → pointed r whole-site size n (lowered t (field_of r)) ≡ pointer_of r size pc location (used t size (number (field_of r) (cell_at core location)))
     pointed-is t here = refl
     pointed-is t there = located-whole n
     pointed-is t (through f) =
@@ -93,7 +93,7 @@ module _ (size pc n : ℕ) where
         let low : before t size core (located whole-site size n) f (number f (cell_at core (located whole-site size n))) ≡ lowered t f
         = ap (λ (p : ℕ). before t size core p f (number f (cell_at core p))) l in
         let p : pointed r whole-site size n (before t size core (located whole-site size n) f (number f (cell_at core (located whole-site size n))))
-        ≡ pointerOf r size pc location (used t size (number f (cell_at core location)))
+        ≡ pointer_of r size pc location (used t size (number f (cell_at core location)))
         = ap (pointed r whole-site size n) low ∙ pointed-is t r in
         record {
           core = ap (λ (p : ℕ). after t size (before t size core p f (number f (cell_at core p))) p f (number f (cell_at core p))) l;
@@ -102,7 +102,7 @@ module _ (size pc n : ℕ) where
           register = ap₂ (λ (c : List ℕ) (q : ℕ). cell_at c q) low p;
           seen = λ u.
               ap₂ (λ (x y : Bool). x && (x && (y && (y && true)))) (ap (λ (q : ℕ). u (get_or core q 0)) l) (ap₂ (λ (c : List ℕ) (q : ℕ). u (get_or c q 0)) low p)
-              ∙ twice (u (get_or core location 0)) (u (get_or (lowered t f) (pointerOf r size pc location (used t size (number f (cell_at core location)))) 0));
+              ∙ twice (u (get_or core location 0)) (u (get_or (lowered t f) (pointer_of r size pc location (used t size (number f (cell_at core location)))) 0));
           written = ap (shifted t) l;
         }
 
@@ -112,26 +112,26 @@ is-unlimited rules e =
     let b = both (eqb rules.read rules.size) (eqb rules.write rules.size) e in
     record { read = eqb-true _ _ b.0; write = eqb-true _ _ b.1 }
 
-pub unlimited-is : (rules : Rules) → Unlimited rules → rules ≡ ofSize rules.size
+pub unlimited-is : (rules : Rules) → Unlimited rules → rules ≡ of_size rules.size
 unlimited-is rules u = λ i. record { size = rules.size; read = u.read i; write = u.write i }
 
-pub whole-operand : (s : Site) (core : List ℕ) (mode n : ℕ) → Unlimited s.rules → validSize s.rules.size ≡ true → length core ≡ s.rules.size
+pub whole-operand : (s : Site) (core : List ℕ) (mode n : ℕ) → Unlimited s.rules → valid_size s.rules.size ≡ true → length core ≡ s.rules.size
     → SameOperand (operand s core mode n) (former s core mode n)
 whole-operand s core mode n u v long =
     let z = both (leb 1 s.rules.size) (leb s.rules.size 46341) v in
-    subst (λ (r : Rules). SameOperand (operand (siteAt r s.pc) core mode n) (former (siteAt r s.pc) core mode n)) (sym (unlimited-is s.rules u))
+    subst (λ (r : Rules). SameOperand (operand (site_at r s.pc) core mode n) (former (site_at r s.pc) core mode n)) (sym (unlimited-is s.rules u))
     (same_operand s.rules.size s.pc n core (leb-true _ _ z.0) (leb-true _ _ z.1) long mode)
 
-module _ (s : Site) (core : List ℕ) (u : Unlimited s.rules) (v : validSize s.rules.size ≡ true) (long : length core ≡ s.rules.size) where
-  pub whole-a : SameOperand (aOperand s core) (formerA s core)
+module _ (s : Site) (core : List ℕ) (u : Unlimited s.rules) (v : valid_size s.rules.size ≡ true) (long : length core ≡ s.rules.size) where
+  pub whole-a : SameOperand (a_operand s core) (former_a s core)
   whole-a = whole-operand s core _ _ u v long
 
-  pub whole-b : SameOperand (bOperand s core) (formerB s core)
+  pub whole-b : SameOperand (b_operand s core) (former_b s core)
   whole-b =
-      subst (λ (c : List ℕ). SameOperand (bOperand s core) (former s c (fetched core s.pc).b_mode (fetched c s.pc).b.0)) whole-a.core
-      (whole-operand s (aOperand s core).core _ _ u v (length-operand s core _ _ ∙ long))
+      subst (λ (c : List ℕ). SameOperand (b_operand s core) (former s c (fetched core s.pc).b_mode (fetched c s.pc).b.0)) whole-a.core
+      (whole-operand s (a_operand s core).core _ _ u v (length-operand s core _ _ ∙ long))
 
-  effect_is : (instructedAt s core).effect ≡ (formerAt s core).effect
+  effect_is : (instructed_at s core).effect ≡ (former_at s core).effect
   effect_is = λ i.
       effect_of (fetched core s.pc).opcode
       (record {
@@ -145,32 +145,32 @@ module _ (s : Site) (core : List ℕ) (u : Unlimited s.rules) (v : validSize s.r
         target = cell_at (whole-b.core i) (whole-b.write i);
       })
 
-  pub whole-effect : SameInstructed (instructedAt s core) (formerAt s core)
+  pub whole-effect : SameInstructed (instructed_at s core) (former_at s core)
   whole-effect =
       record {
         effect = effect_is;
-        core = λ i. storeTo (effect_is i).cell (whole-b.core i) (whole-b.write i);
+        core = λ i. store_to (effect_is i).cell (whole-b.core i) (whole-b.write i);
         seen = λ t.
-            every-join t (aOperand s core).seen (bOperand s core).seen ∙ ap₂ ◌&&◌ (whole-a.seen t) (whole-b.seen t)
-            ∙ sym (every-join t (formerA s core).seen (formerB s core).seen);
+            every-join t (a_operand s core).seen (b_operand s core).seen ∙ ap₂ ◌&&◌ (whole-a.seen t) (whole-b.seen t)
+            ∙ sym (every-join t (former_a s core).seen (former_b s core).seen);
         written = λ i. whole-a.written i ++ (whole-b.written i ++ stored_at (effect_is i).cell (whole-b.write i));
       }
 
-pub whole-step : (m : Machine) → Unlimited m.header.rules → step m ≡ formerStep m
-unfolding step executed effect coreAfter stepWritten
-whole-step m u = go (soundHeader m) refl
+pub whole-step : (m : Machine) → Unlimited m.header.rules → step m ≡ former_step m
+unfolding step executed effect core_after step_written
+whole-step m u = go (sound_header m) refl
   where
     told : Bool → Instructed → Outcome
     told b i =
-        settle (first (check (not b) 9 ∷ checksBy (every (soundWord m.header.rules.size) i.seen) m)) m
-        (executedBy i.effect i.core (length i.written) m)
+        settle (first (check (not b) 9 ∷ checks_by (every (sound_word m.header.rules.size) i.seen) m)) m
+        (executed_by i.effect i.core (length i.written) m)
 
-    go : (b : Bool) → soundHeader m ≡ b → told b (instructedAt (site m) m.core) ≡ told b (formerAt (site m) m.core)
+    go : (b : Bool) → sound_header m ≡ b → told b (instructed_at (site m) m.core) ≡ told b (former_at (site m) m.core)
     go false e = refl
     go true e =
         let w = whole-effect (site m) m.core u (tested m e).size (tested m e).core in
-        λ i. settle (first (check false 9 ∷ checksBy (w.seen (soundWord m.header.rules.size) i) m)) m
-        (executedBy (w.effect i) (w.core i) (length (w.written i)) m)
+        λ i. settle (first (check false 9 ∷ checks_by (w.seen (sound_word m.header.rules.size) i) m)) m
+        (executed_by (w.effect i) (w.core i) (length (w.written i)) m)
 
 -- THE LAW
 pub whole : Whole

@@ -2,22 +2,22 @@
 -- Believed. Assumes nothing.
 use Rattle.std.specs.Prelude.{ℕ, ◌-◌, ◌^◌, ◌≡◌, List, [], ◌∷◌, ◌++◌, map, pos, negsuc, length, get_or, replicate}
 use Rattle.offset.specs.Offset.{euclid}
-use Rattle.cell.specs.Cells.{packed, relative, freshCell, soundWord}
+use Rattle.cell.specs.Cells.{packed, relative, fresh_cell, sound_word}
 use Rattle.types.specs.Defaults.{unnamed}
 use Rattle.types.specs.Opcode.{DAT, MOV, MUL, DIV, JMZ, SEQ, SPL}
 use Rattle.types.specs.Modifier as modifier
 use Rattle.types.specs.Mode as mode
 use Rattle.encoding.specs.Bytes.{spelled}
-use Rattle.program.specs.Program.{lawful, lowestFault, cells}
-use Rattle.machine.specs.State.{ofSize, Machine}
+use Rattle.program.specs.Program.{lawful, lowest_fault, cells}
+use Rattle.machine.specs.State.{of_size, Machine}
 use Rattle.machine.specs.Names.{register, numbered}
-use Rattle.machine.specs.Queue.{unpackedEntry, entries, pop, push, started}
-use Rattle.machine.specs.Soundness.{soundHeader, soundEntry}
+use Rattle.machine.specs.Queue.{unpacked_entry, entries, pop, push, started}
+use Rattle.machine.specs.Soundness.{sound_header, sound_entry}
 use Rattle.machine.specs.Fresh.{fresh}
 use Rattle.machine.specs.Load.{loaded, load}
 use Rattle.machine.specs.Pointers.{operand}
 use Rattle.machine.specs.Execution.{effect_of}
-use Rattle.machine.specs.Step.{operandB, effect, coreAfter, stepWritten, counted, executed, step}
+use Rattle.machine.specs.Step.{operand_b, effect, core_after, step_written, counted, executed, step}
 
 pub record Row : Type 0 where
   pub got : List ℕ
@@ -39,12 +39,12 @@ cell a b = word DAT modifier.F mode.Direct a mode.Direct b
 
 -- a fresh machine of that size and queue memory, with a body at 0 and one entry there
 abbrev pub board : ℕ → ℕ → List ℕ → Machine
-board size limit body = (load (fresh (ofSize size) (replicate size 0) (replicate limit 0)).machine [] body 65535 0).machine
+board size limit body = (load (fresh (of_size size) (replicate size 0) (replicate limit 0)).machine [] body 65535 0).machine
 
 -- place and thread number of each entry
 abbrev pub threads : List ℕ → List ℕ
 threads [] = []
-threads (w ∷ ws) = (unpackedEntry w).place.0 ∷ (unpackedEntry w).thread ∷ threads ws
+threads (w ∷ ws) = (unpacked_entry w).place.0 ∷ (unpacked_entry w).thread ∷ threads ws
 
 -- one step of M 8: number, value, writes, the core and the queue
 abbrev pub battle : ℕ → List ℕ → List ℕ
@@ -52,20 +52,20 @@ battle limit body = let o = step (board 8 limit body) in o.number ∷ o.value �
 
 -- the same as 01 says it; untold cells are fresh
 abbrev pub says : ℕ → ℕ → ℕ → List ℕ → List ℕ → List ℕ
-says number value writes told queue = number ∷ value ∷ writes ∷ (told ++ (replicate (8 - length told) freshCell ++ queue))
+says number value writes told queue = number ∷ value ∷ writes ∷ (told ++ (replicate (8 - length told) fresh_cell ++ queue))
 
 unfoldable pub battles : List Row
-unfolding soundWord lawful lowestFault cells register numbered entries pop push started soundHeader soundEntry fresh loaded load operand effect_of effect coreAfter stepWritten counted executed step
+unfolding sound_word lawful lowest_fault cells register numbered entries pop push started sound_header sound_entry fresh loaded load operand effect_of effect core_after step_written counted executed step
 battles =
     -- −1 → 7; M 7: −2,147,483,648 → 5; M 46,341: 2,147,483,647 → 41,707
     record { got = euclid (negsuc 0) 8 ∷ euclid (negsuc 2147483647) 7 ∷ euclid (pos 2147483647) 46341 ∷ []; wanted = 7 ∷ 5 ∷ 41707 ∷ [] }
     -- sizes 0, 46,342 refused; 1, 46,341 accepted
     ∷ record {
       got =
-          (fresh (ofSize 0) [] (0 ∷ [])).number
-          ∷ (fresh (ofSize 46342) (replicate 46342 0) (0 ∷ [])).number
-          ∷ (fresh (ofSize 1) (0 ∷ []) (0 ∷ [])).number
-          ∷ (fresh (ofSize 46341) (replicate 46341 0) (0 ∷ [])).number
+          (fresh (of_size 0) [] (0 ∷ [])).number
+          ∷ (fresh (of_size 46342) (replicate 46342 0) (0 ∷ [])).number
+          ∷ (fresh (of_size 1) (0 ∷ []) (0 ∷ [])).number
+          ∷ (fresh (of_size 46341) (replicate 46341 0) (0 ∷ [])).number
           ∷ [];
       wanted = 1 ∷ 1 ∷ 0 ∷ 0 ∷ [];
     }
@@ -91,7 +91,7 @@ battles =
     -- MOV.A <0,$1: B number 0, target cell 0, 2 writes. The number moved is 0, so the target is the B pointer, given first
     ∷ record {
       got =
-          (operandB (board 8 8 (bytes MOV modifier.A mode.PreDecIndirectB 0 mode.Direct 1))).write
+          (operand_b (board 8 8 (bytes MOV modifier.A mode.PreDecIndirectB 0 mode.Direct 1))).write
           ∷ battle 8 (bytes MOV modifier.A mode.PreDecIndirectB 0 mode.Direct 1);
       wanted = 0 ∷ says 0 0 2 (word MOV modifier.A mode.PreDecIndirectB 0 mode.Direct 0 ∷ []) (1 ∷ 0 ∷ []);
     }

@@ -12,13 +12,13 @@ abbrev pub fetched : List ℕ → ℕ → Cell
 fetched core pc = cell_at core pc
 
 -- the A operand comes first
-abbrev pub aOperand : Site → List ℕ → Operand
-aOperand s core = operand s core (fetched core s.pc).a_mode (fetched core s.pc).a.0
+abbrev pub a_operand : Site → List ℕ → Operand
+a_operand s core = operand s core (fetched core s.pc).a_mode (fetched core s.pc).a.0
 
 -- the B operand follows, its number read again from the core
-abbrev pub bOperand : Site → List ℕ → Operand
-bOperand s core =
-    let a = aOperand s core in
+abbrev pub b_operand : Site → List ℕ → Operand
+b_operand s core =
+    let a = a_operand s core in
     operand s a.core (fetched core s.pc).b_mode (fetched a.core s.pc).b.0
 
 -- copies and jumps use the read pointer, stores the write pointer; the live cell is the one at the B read pointer
@@ -36,9 +36,9 @@ scene_of s ir a b =
     }
 
 -- the target cell, stored; one write if any target field is stored
-abbrev pub storeTo : Option Cell → List ℕ → ℕ → List ℕ
-storeTo none core place = core
-storeTo (some c) core place = store core place (packed c)
+abbrev pub store_to : Option Cell → List ℕ → ℕ → List ℕ
+store_to none core place = core
+store_to (some c) core place = store core place (packed c)
 
 abbrev pub stored_at : Option Cell → ℕ → List ℕ
 stored_at none place = []
@@ -57,26 +57,26 @@ instructed s ir a b =
     let e = effect_of ir.opcode (scene_of s ir a b) in
     record {
       effect = e;
-      core = storeTo e.cell b.core b.write;
+      core = store_to e.cell b.core b.write;
       seen = a.seen ++ b.seen;
       written = a.written ++ (b.written ++ stored_at e.cell b.write);
     }
 
 -- the instruction at PC
-abbrev pub instructedAt : Site → List ℕ → Instructed
-instructedAt s core = instructed s (fetched core s.pc) (aOperand s core) (bOperand s core)
+abbrev pub instructed_at : Site → List ℕ → Instructed
+instructed_at s core = instructed s (fetched core s.pc) (a_operand s core) (b_operand s core)
 
 abbrev pub scene_at : Site → List ℕ → Scene
-scene_at s core = scene_of s (fetched core s.pc) (aOperand s core) (bOperand s core)
+scene_at s core = scene_of s (fetched core s.pc) (a_operand s core) (b_operand s core)
 
-abbrev pub effectAt : Site → List ℕ → Effect
-effectAt s core = (instructedAt s core).effect
+abbrev pub effect_at : Site → List ℕ → Effect
+effect_at s core = (instructed_at s core).effect
 
-abbrev pub coreAt : Site → List ℕ → List ℕ
-coreAt s core = (instructedAt s core).core
+abbrev pub core_at : Site → List ℕ → List ℕ
+core_at s core = (instructed_at s core).core
 
 abbrev pub seen_at : Site → List ℕ → List ℕ
-seen_at s core = (instructedAt s core).seen
+seen_at s core = (instructed_at s core).seen
 
-abbrev pub writtenAt : Site → List ℕ → List ℕ
-writtenAt s core = (instructedAt s core).written
+abbrev pub written_at : Site → List ℕ → List ℕ
+written_at s core = (instructed_at s core).written

@@ -11,4 +11,4 @@ pub mod Step
 pub mod Run
 pub mod Whole
 pub mod Battles
-pub mod inner
+pub mod Inner

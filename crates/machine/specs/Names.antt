@@ -17,12 +17,12 @@ names r = table (name_at r) 0 r.held
 abbrev pub slot : Roster → List ℕ → ℕ
 slot r n = lowest (same n) (names r)
 
-abbrev pub isNew : Roster → List ℕ → Bool
-isNew r n = eqb (slot r n) r.held
+abbrev pub is_new : Roster → List ℕ → Bool
+is_new r n = eqb (slot r n) r.held
 
 -- a seventeenth name
 abbrev pub seventeenth : Roster → List ℕ → Bool
-seventeenth r n = isNew r n && eqb r.held 16
+seventeenth r n = is_new r n && eqb r.held 16
 
 -- each name has a count and a next thread number: its count, 0 where it is not held
 abbrev pub count_of : Header → List ℕ → ℕ
@@ -47,7 +47,7 @@ register h n =
 
 -- a held name is shared
 abbrev pub registered : Header → List ℕ → Header
-registered h n = cond (isNew h.names n) (register h n) h
+registered h n = cond (is_new h.names n) (register h n) h
 
 -- the next thread number of the name at an index rises by one
 unfoldable pub numbered : ℕ → Header → Header

@@ -34,8 +34,8 @@ pub record Site : Type 0 where
   pub rules : Rules
   pub pc : ℕ
 
-abbrev pub siteAt : Rules → ℕ → Site
-siteAt rules pc = record { rules = rules; pc = pc }
+abbrev pub site_at : Rules → ℕ → Site
+site_at rules pc = record { rules = rules; pc = pc }
 
 -- a pointer p, taken from PC, mod the limit folds to r; when r is over half the limit (halved downward), M − limit is added
 abbrev pub fold : ℕ → ℕ → ℕ → ℕ

@@ -6,18 +6,18 @@ use Rattle.offset.specs.Offset.{ahead}
 use Rattle.machine.specs.declared.Entry.{Entry}
 use Rattle.machine.specs.declared.Header.{Header}
 use Rattle.machine.specs.declared.Ring.{Ring}
-use Rattle.machine.specs.State.{Machine, under, withQueue}
+use Rattle.machine.specs.State.{Machine, under, with_queue}
 use Rattle.machine.specs.Names.{names, numbered}
 
 -- Entry, 64 bits: place in bits 0–15, thread number 16–47, name index 48–51, else zero
-abbrev pub packedEntry : Entry → ℕ
-packedEntry e = e.name % 2 ^ 4 * 2 ^ 48 + e.thread % 2 ^ 32 * 2 ^ 16 + e.place.0 % 2 ^ 16
+abbrev pub packed_entry : Entry → ℕ
+packed_entry e = e.name % 2 ^ 4 * 2 ^ 48 + e.thread % 2 ^ 32 * 2 ^ 16 + e.place.0 % 2 ^ 16
 
 abbrev pub entry : ℕ → ℕ → ℕ → Entry
 entry place thread name = record { place = record { 0 = place }; thread = thread; name = name }
 
-abbrev pub unpackedEntry : ℕ → Entry
-unpackedEntry w = entry (w % 2 ^ 16) (w / 2 ^ 16 % 2 ^ 32) (w / 2 ^ 48 % 2 ^ 4)
+abbrev pub unpacked_entry : ℕ → Entry
+unpacked_entry w = entry (w % 2 ^ 16) (w / 2 ^ 16 % 2 ^ 32) (w / 2 ^ 48 % 2 ^ 4)
 
 -- n slots from i on, round the end
 abbrev pub slots : List ℕ → ℕ → ℕ → List ℕ
@@ -30,10 +30,10 @@ entries m = slots m.queue m.header.ring.head m.header.ring.length
 
 -- the name of an entry, and how many entries a name has
 abbrev pub name_of : Machine → ℕ → List ℕ
-name_of m w = get_or (names m.header.names) (unpackedEntry w).name []
+name_of m w = get_or (names m.header.names) (unpacked_entry w).name []
 
-abbrev pub entriesOf : Machine → List ℕ → ℕ
-entriesOf m n = tally (λ w. same (name_of m w) n) (entries m)
+abbrev pub entries_of : Machine → List ℕ → ℕ
+entries_of m n = tally (λ w. same (name_of m w) n) (entries m)
 
 -- no room for an entry of the name at an index: the process limit is the queue memory's length and covers all names together
 abbrev pub full : Machine → ℕ → Bool
@@ -52,7 +52,7 @@ requeued h ring counts =
 unfoldable pub pop : Machine → Machine
 pop m =
     let h = m.header in
-    let i = (unpackedEntry (front m)).name in
+    let i = (unpacked_entry (front m)).name in
     under
     (requeued h (record { head = ahead (length m.queue) h.ring.head 1; length = h.ring.length - 1 })
     (set h.counts i (get_or h.counts i 0 - 1)))
@@ -63,7 +63,7 @@ unfoldable pub push : Entry → Machine → Machine
 push e m =
     let h = m.header in
     let i = e.name in
-    withQueue (set m.queue (ahead (length m.queue) h.ring.head h.ring.length) (packedEntry e))
+    with_queue (set m.queue (ahead (length m.queue) h.ring.head h.ring.length) (packed_entry e))
     (requeued h (record { head = h.ring.head; length = h.ring.length + 1 }) (set h.counts i (get_or h.counts i 0 + 1)))
     m
 

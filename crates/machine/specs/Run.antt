@@ -2,11 +2,11 @@
 -- Believed. Assumes nothing.
 use Rattle.std.specs.Prelude.{ℕ, zero, suc, ◌-◌, not, List, [], ◌∷◌, ℤ, get_or}
 use Rattle.offset.specs.Offset.{euclid}
-use Rattle.cell.specs.Cells.{soundWord}
+use Rattle.cell.specs.Cells.{sound_word}
 use Rattle.machine.specs.declared.Ceiling.{Ceiling}
 use Rattle.machine.specs.declared.Ceiling.TheVariants.{Unsaid, Steps}
 use Rattle.machine.specs.State.{Machine, Outcome, done, and_then, Check, check, first, settle}
-use Rattle.machine.specs.Soundness.{soundHeader}
+use Rattle.machine.specs.Soundness.{sound_header}
 use Rattle.machine.specs.Step.{step}
 
 -- up to k steps, up to the first answer not 0
@@ -15,22 +15,22 @@ plays zero m = done m 0 0
 plays (suc k) m = and_then (step m) (plays k)
 
 -- a ceiling on total steps (none: 10,000)
-abbrev pub ceilingOf : Ceiling → ℕ
-ceilingOf Unsaid = 10000
-ceilingOf (Steps n) = n
+abbrev pub ceiling_of : Ceiling → ℕ
+ceiling_of Unsaid = 10000
+ceiling_of (Steps n) = n
 
 -- order of run: 9 (header), then its steps, while steps taken are below the ceiling: a step answered 0 counts one
 unfoldable pub run : Ceiling → Machine → Outcome
-run ceiling m = settle (first (check (not (soundHeader m)) 9 ∷ [])) m (plays (ceilingOf ceiling - m.header.steps) m)
+run ceiling m = settle (first (check (not (sound_header m)) 9 ∷ [])) m (plays (ceiling_of ceiling - m.header.steps) m)
 
 -- any i32, reduced
 abbrev pub word_at : Machine → ℤ → ℕ
 word_at m z = get_or m.core (euclid z m.header.rules.size) 0
 
 -- order of cell reading: 9 (header), 9 (cell)
-abbrev pub readChecks : Machine → ℤ → List Check
-readChecks m z = check (not (soundHeader m)) 9 ∷ check (not (soundWord m.header.rules.size (word_at m z))) 9 ∷ []
+abbrev pub read_checks : Machine → ℤ → List Check
+read_checks m z = check (not (sound_header m)) 9 ∷ check (not (sound_word m.header.rules.size (word_at m z))) 9 ∷ []
 
 -- its value is the cell's word
 unfoldable pub read : Machine → ℤ → Outcome
-read m z = settle (first (readChecks m z)) m (record { machine = m; number = 0; value = word_at m z; writes = 0; steps = 0; pushes = 0 })
+read m z = settle (first (read_checks m z)) m (record { machine = m; number = 0; value = word_at m z; writes = 0; steps = 0; pushes = 0 })

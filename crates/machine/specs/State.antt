@@ -7,8 +7,8 @@ use Rattle.machine.specs.declared.Header.{Header}
 use Rattle.machine.specs.declared.Rules.{Rules}
 
 -- the rules of a core of that size, with both limits M
-abbrev pub ofSize : ℕ → Rules
-ofSize size = record { size = size; read = size; write = size }
+abbrev pub of_size : ℕ → Rules
+of_size size = record { size = size; read = size; write = size }
 
 -- the core memory, the queue memory and the header
 pub record Machine : Type 0 where
@@ -21,12 +21,12 @@ abbrev pub under : Header → Machine → Machine
 under h m = record { core = m.core; queue = m.queue; header = h }
 
 -- the same machine with another core
-abbrev pub withCore : List ℕ → Machine → Machine
-withCore core m = record { core = core; queue = m.queue; header = m.header }
+abbrev pub with_core : List ℕ → Machine → Machine
+with_core core m = record { core = core; queue = m.queue; header = m.header }
 
 -- the same core with another queue memory and header
-abbrev pub withQueue : List ℕ → Header → Machine → Machine
-withQueue queue h m = record { core = m.core; queue = queue; header = h }
+abbrev pub with_queue : List ℕ → Header → Machine → Machine
+with_queue queue h m = record { core = m.core; queue = queue; header = h }
 
 -- the machine afterwards; 01's number and value; writes; steps; entries pushed
 pub record Outcome : Type 0 where
@@ -37,8 +37,8 @@ pub record Outcome : Type 0 where
   pub steps : ℕ
   pub pushes : ℕ
 
-abbrev pub toldBy : Outcome → Told
-toldBy o = gives o.number o.value
+abbrev pub told_by : Outcome → Told
+told_by o = gives o.number o.value
 
 -- a call that is answered 0 and leaves m, with its writes and entries pushed
 abbrev pub done : Machine → ℕ → ℕ → Outcome
@@ -88,6 +88,6 @@ settle accepted m o = o
 settle (refusal n v) m o = record { machine = m; number = n; value = v; writes = 0; steps = 0; pushes = 0 }
 
 -- what a verdict tells: the number and value of the row that applies, 0 where none does
-abbrev pub verdictTold : Verdict → Told
-verdictTold accepted = gives 0 0
-verdictTold (refusal n v) = gives n v
+abbrev pub verdict_told : Verdict → Told
+verdict_told accepted = gives 0 0
+verdict_told (refusal n v) = gives n v

@@ -3,13 +3,13 @@
 use Rattle.std.specs.Prelude.{ℕ, ◌≡◌, Bool, true, not, List, [], ◌∷◌, length, get_or}
 use Rattle.laws.specs.Lists.{every}
 use Rattle.offset.specs.Offset.{ahead}
-use Rattle.cell.specs.Cells.{soundWord, number, cell_at}
+use Rattle.cell.specs.Cells.{sound_word, number, cell_at}
 use Rattle.machine.specs.declared.Rules.{Rules}
 use Rattle.machine.specs.State.{Machine, Outcome, check, first, settle}
-use Rattle.machine.specs.Soundness.{validSize, soundHeader}
+use Rattle.machine.specs.Soundness.{valid_size, sound_header}
 use Rattle.machine.specs.Pointers.{Reach, here, there, through, reaches, Shift, keeps, lowers, raises, shifts, field_of, less, before, after, shifted, Site, Operand, operand}
-use Rattle.machine.specs.Instruction.{fetched, Instructed, instructed, instructedAt}
-use Rattle.machine.specs.Step.{site, executedBy, checksBy, step}
+use Rattle.machine.specs.Instruction.{fetched, Instructed, instructed, instructed_at}
+use Rattle.machine.specs.Step.{site, executed_by, checks_by, step}
 
 -- the number found there (minus 1 for `{ <`)
 abbrev pub used : Shift → ℕ → ℕ → ℕ
@@ -18,10 +18,10 @@ used lowers size found = less size found
 used raises size found = found
 
 -- pointer: PC for `#`, the location for `$`, else location + number
-abbrev pub pointerOf : Reach → ℕ → ℕ → ℕ → ℕ → ℕ
-pointerOf here size pc location n = pc
-pointerOf there size pc location n = location
-pointerOf (through f) size pc location n = ahead size location n
+abbrev pub pointer_of : Reach → ℕ → ℕ → ℕ → ℕ → ℕ
+pointer_of here size pc location n = pc
+pointer_of there size pc location n = location
+pointer_of (through f) size pc location n = ahead size location n
 
 -- location: PC + number. Pointer. Then the decrement; the register is a copy of the cell at the pointer; then the increment
 unfoldable pub former : Site → List ℕ → ℕ → ℕ → Operand
@@ -32,7 +32,7 @@ former s core mode n =
     let f = field_of reach in
     let location = ahead size s.pc n in
     let found = number f (cell_at core location) in
-    let pointer = pointerOf reach size s.pc location (used shift size found) in
+    let pointer = pointer_of reach size s.pc location (used shift size found) in
     let lowered = before shift size core location f found in
     record {
       core = after shift size lowered location f found;
@@ -44,22 +44,22 @@ former s core mode n =
     }
 
 -- the A operand, the B operand, the instruction at PC and the step
-abbrev pub formerA : Site → List ℕ → Operand
-formerA s core = former s core (fetched core s.pc).a_mode (fetched core s.pc).a.0
+abbrev pub former_a : Site → List ℕ → Operand
+former_a s core = former s core (fetched core s.pc).a_mode (fetched core s.pc).a.0
 
-abbrev pub formerB : Site → List ℕ → Operand
-formerB s core =
-    let a = formerA s core in
+abbrev pub former_b : Site → List ℕ → Operand
+former_b s core =
+    let a = former_a s core in
     former s a.core (fetched core s.pc).b_mode (fetched a.core s.pc).b.0
 
-abbrev pub formerAt : Site → List ℕ → Instructed
-formerAt s core = instructed s (fetched core s.pc) (formerA s core) (formerB s core)
+abbrev pub former_at : Site → List ℕ → Instructed
+former_at s core = instructed s (fetched core s.pc) (former_a s core) (former_b s core)
 
-abbrev pub formerStep : Machine → Outcome
-formerStep m =
-    let i = formerAt (site m) m.core in
-    settle (first (check (not (soundHeader m)) 9 ∷ checksBy (every (soundWord m.header.rules.size) i.seen) m)) m
-    (executedBy i.effect i.core (length i.written) m)
+abbrev pub former_step : Machine → Outcome
+former_step m =
+    let i = former_at (site m) m.core in
+    settle (first (check (not (sound_header m)) 9 ∷ checks_by (every (sound_word m.header.rules.size) i.seen) m)) m
+    (executed_by i.effect i.core (length i.written) m)
 
 -- alike: the cells read are the same ones, each for both chains
 pub record SameOperand (o p : Operand) : Type 0 where
@@ -83,8 +83,8 @@ pub record Unlimited (rules : Rules) : Type 0 where
 
 -- every operand and every effect in a core of M cells, and every step, is the former one
 pub record Whole : Type 0 where
-  pub operands : (s : Site) (core : List ℕ) (mode n : ℕ) → Unlimited s.rules → validSize s.rules.size ≡ true → length core ≡ s.rules.size
+  pub operands : (s : Site) (core : List ℕ) (mode n : ℕ) → Unlimited s.rules → valid_size s.rules.size ≡ true → length core ≡ s.rules.size
       → SameOperand (operand s core mode n) (former s core mode n)
-  pub effects : (s : Site) (core : List ℕ) → Unlimited s.rules → validSize s.rules.size ≡ true → length core ≡ s.rules.size
-      → SameInstructed (instructedAt s core) (formerAt s core)
-  pub steps : (m : Machine) → Unlimited m.header.rules → step m ≡ formerStep m
+  pub effects : (s : Site) (core : List ℕ) → Unlimited s.rules → valid_size s.rules.size ≡ true → length core ≡ s.rules.size
+      → SameInstructed (instructed_at s core) (former_at s core)
+  pub steps : (m : Machine) → Unlimited m.header.rules → step m ≡ former_step m

@@ -4,7 +4,7 @@ use mathlib.Core.Path.{◌≡◌, refl}
 use borrow.Author.Tests.{eqb-false}
 use Rattle.match_format.specs.declared.Fault.{Fault}
 use Rattle.match_format.specs.declared.Fault.TheVariants.{Nowhere, At}
-use Rattle.match_file.specs.Reading.{toldBy}
+use Rattle.match_file.specs.Reading.{told_by}
 use Rattle.match_file.specs.Refusal.{malformed}
 
 -- the row has that number
@@ -13,6 +13,6 @@ thirteen Nowhere = refl
 thirteen (At p) = refl
 
 -- a fault that is told by no number is none
-pub not-told : (x : Fault) → (toldBy x).number ≡ 0 → x ≡ Nowhere
+pub not-told : (x : Fault) → (told_by x).number ≡ 0 → x ≡ Nowhere
 not-told Nowhere e = refl
 not-told (At p) e = absurd (eqb-false 13 0 refl e)

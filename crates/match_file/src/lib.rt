@@ -3,8 +3,8 @@
 
 ghost use Rattle.std.specs.Prelude.{◌≡◌};
 ghost use Rattle.answer.specs.Numbers.{told};
-ghost use Rattle.match_format.specs.Faults.{fault, faultAt};
-ghost use Rattle.match_file.specs.Reading.{toldBy, zeroed, emptied, cleared, warriorsIn, sizeIn, lineIn, warriorOf};
+ghost use Rattle.match_format.specs.Faults.{fault, fault_at};
+ghost use Rattle.match_file.specs.Reading.{told_by, zeroed, emptied, cleared, warriors_in, size_in, line_in, warrior_of};
 
 use answer::Answer;
 use encoding::{byte, number16_at, number32_at, part};
@@ -38,9 +38,9 @@ pub struct LineRead {
 
 // Reads how many warriors a file has, and M.
 pub fn read(file: &[u8]) -> Contents
-    ensures { (told result.answer ≡ toldBy (fault file.now))
-        × (result.warriors ≡ zeroed (fault file.now) (warriorsIn file.now))
-        × (result.size ≡ zeroed (fault file.now) (sizeIn file.now)) }
+    ensures { (told result.answer ≡ told_by (fault file.now))
+        × (result.warriors ≡ zeroed (fault file.now) (warriors_in file.now))
+        × (result.size ≡ zeroed (fault file.now) (size_in file.now)) }
 {
     match first_fault(file) {
         Fault::At(p) => Contents {
@@ -58,7 +58,7 @@ pub fn read(file: &[u8]) -> Contents
 
 // What the line of a warrior says, of any bytes: a file is checked once, by reading it.
 pub fn line_in(file: &[u8], number: u8) -> Line
-    ensures { result ≡ lineIn file.now number }
+    ensures { result ≡ line_in file.now number }
 {
     let at = 4 + 43 * number as usize;
     Line {
@@ -73,7 +73,7 @@ pub fn line_in(file: &[u8], number: u8) -> Line
 
 // Reads the line of a warrior.
 pub fn read_line(file: &[u8], number: usize) -> LineRead
-    ensures { (told result.answer ≡ toldBy (faultAt file.now number)) × (result.line ≡ cleared (faultAt file.now number) (lineIn file.now number)) }
+    ensures { (told result.answer ≡ told_by (fault_at file.now number)) × (result.line ≡ cleared (fault_at file.now number) (line_in file.now number)) }
 {
     match first_fault_at(file, number) {
         Fault::At(p) => LineRead {
@@ -96,7 +96,7 @@ pub fn read_line(file: &[u8], number: usize) -> LineRead
 
 // The name of a warrior: a part of the file.
 pub fn name(file: &[u8], number: usize) -> &[u8]
-    ensures { result.now ≡ emptied (faultAt file.now number) (warriorOf file.now number).name }
+    ensures { result.now ≡ emptied (fault_at file.now number) (warrior_of file.now number).name }
 {
     match first_fault_at(file, number) {
         Fault::At(_) => &file[..0],
@@ -109,7 +109,7 @@ pub fn name(file: &[u8], number: usize) -> &[u8]
 
 // The body of a warrior: that very part of the file.
 pub fn body(file: &[u8], number: usize) -> &[u8]
-    ensures { result.now ≡ emptied (faultAt file.now number) (warriorOf file.now number).body }
+    ensures { result.now ≡ emptied (fault_at file.now number) (warrior_of file.now number).body }
 {
     match first_fault_at(file, number) {
         Fault::At(_) => &file[..0],

@@ -2,7 +2,7 @@
 -- Believed. Assumes nothing.
 use Rattle.std.specs.Prelude.{ℕ, zero, suc, ◌+◌, ◌-◌, ◌*◌, Bool, true, false, ◌&&◌, List, [], ◌∷◌, leb, ltb, eqb, length, get_or}
 use Rattle.encoding.specs.Bytes.{part}
-use Rattle.metadata.specs.Metadata.{validByte}
+use Rattle.metadata.specs.Metadata.{valid_byte}
 use Rattle.match_format.specs.declared.Fault.{Fault}
 use Rattle.match_format.specs.declared.Fault.TheVariants.{Nowhere, At}
 use Rattle.match_format.specs.Format.{number}
@@ -32,32 +32,32 @@ abbrev pub within : ℕ → ℕ → ℕ → Bool
 within lo hi b = leb lo b && leb b hi
 
 -- a name obeys 5's byte rule; its padding is zeros
-abbrev pub nameFault : List ℕ → ℕ → Fault
-nameFault f p = faulty validByte (p + 1) (part f (p + 1) (get_or f p 0))
+abbrev pub name_fault : List ℕ → ℕ → Fault
+name_fault f p = faulty valid_byte (p + 1) (part f (p + 1) (get_or f p 0))
 
-abbrev pub paddingFault : List ℕ → ℕ → Fault
-paddingFault f p = faulty (within 0 0) (p + 1 + get_or f p 0) (part f (p + 1 + get_or f p 0) (32 - get_or f p 0))
+abbrev pub padding_fault : List ℕ → ℕ → Fault
+padding_fault f p = faulty (within 0 0) (p + 1 + get_or f p 0) (part f (p + 1 + get_or f p 0) (32 - get_or f p 0))
 
 -- a line of 43 bytes at p: name length (1), name (32, zero padded), body start (4), instruction count (2), origin (2), place (2)
-unfoldable pub lineFault : List ℕ → ℕ → ℕ → Fault
-lineFault f p start =
+unfoldable pub line_fault : List ℕ → ℕ → ℕ → Fault
+line_fault f p start =
     field f p 1 (leb (get_or f p 0) 32)
     else field f (p + 1) 32 true
-    else nameFault f p
-    else paddingFault f p
+    else name_fault f p
+    else padding_fault f p
     else field f (p + 33) 4 (eqb (number f (p + 33) 4) start)
     else field f (p + 37) 2 true
     else field f (p + 39) 2 true
     else field f (p + 41) 2 true
 
 -- bodies to the file's end: one past the end gives the file's length, extra bytes the first of them
-abbrev pub endFault : List ℕ → ℕ → Fault
-endFault f end = unless (leb end (length f)) (length f) else unless (leb (length f) end) end
+abbrev pub end_fault : List ℕ → ℕ → Fault
+end_fault f end = unless (leb end (length f)) (length f) else unless (leb (length f) end) end
 
 -- n lines from p on, and the bodies; the next body starts at start, without gaps
-unfoldable pub linesFault : List ℕ → ℕ → ℕ → ℕ → Fault
-linesFault f p start zero = endFault f start
-linesFault f p start (suc n) = lineFault f p start else linesFault f (p + 43) (start + 12 * number f (p + 37) 2) n
+unfoldable pub lines_fault : List ℕ → ℕ → ℕ → ℕ → Fault
+lines_fault f p start zero = end_fault f start
+lines_fault f p start (suc n) = line_fault f p start else lines_fault f (p + 43) (start + 12 * number f (p + 37) 2) n
 
 -- warriors n (1 byte, 1–16), M (2), a zero byte; then n lines
 unfoldable pub fault : List ℕ → Fault
@@ -65,8 +65,8 @@ fault f =
     field f 0 1 (leb 1 (get_or f 0 0) && leb (get_or f 0 0) 16)
     else field f 1 2 true
     else field f 3 1 (eqb (get_or f 3 0) 0)
-    else linesFault f 4 (4 + 43 * get_or f 0 0) (get_or f 0 0)
+    else lines_fault f 4 (4 + 43 * get_or f 0 0) (get_or f 0 0)
 
 -- warrior numbers start at 0; one not below n is 13 at 0, tested last
-abbrev pub faultAt : List ℕ → ℕ → Fault
-faultAt f k = fault f else unless (ltb k (get_or f 0 0)) 0
+abbrev pub fault_at : List ℕ → ℕ → Fault
+fault_at f k = fault f else unless (ltb k (get_or f 0 0)) 0

@@ -3,7 +3,7 @@
 use Rattle.std.specs.Prelude.{ℕ, ◌+◌, ◌-◌, ◌*◌, ◌≤◌, ◌<◌, ◌≡◌, true, List, [], ◌∷◌, ◌++◌, length, get_or, replicate}
 use Rattle.encoding.specs.Bytes.{part, value, spelled}
 use Rattle.program.specs.Program.{instructions}
-use Rattle.metadata.specs.Metadata.{validName}
+use Rattle.metadata.specs.Metadata.{valid_name}
 
 -- a byte is below 256
 abbrev pub Bytes : List ℕ → Type 0
@@ -45,7 +45,7 @@ file size ws = length ws ∷ (spelled 2 size ++ (0 ∷ (lines (4 + 43 * length w
 
 -- a warrior that a file can hold: the name obeys 5's rule, instructions are whole, and each number fits its bytes
 pub record Fits (w : Warrior) : Type 0 where
-  pub name : validName w.name ≡ true
+  pub name : valid_name w.name ≡ true
   pub body : length w.body ≡ 12 * instructions w.body
   pub count : instructions w.body < 65536
   pub origin : w.origin < 65536

@@ -3,7 +3,7 @@
 
 ghost use Rattle.std.specs.Prelude.{◌≡◌, ◌+◌, ◌-◌, ◌*◌, ◌≤◌, length};
 ghost use Rattle.encoding.specs.Bytes.{part};
-ghost use Rattle.match_format.specs.Faults.{within, faulty, lineFault, linesFault, fault, faultAt};
+ghost use Rattle.match_format.specs.Faults.{within, faulty, line_fault, lines_fault, fault, fault_at};
 
 use encoding::{number16_at, number32_at};
 
@@ -39,7 +39,7 @@ fn first_outside(file: &[u8], from: usize, end: usize, lo: u8, hi: u8) -> Fault
 // The first fault of a line of the contents, whose body is to start at a position.
 fn line_fault(file: &[u8], at: usize, start: usize) -> Fault
     requires { at ≤ 692 }
-    ensures { result ≡ lineFault file.now at start }
+    ensures { result ≡ line_fault file.now at start }
 {
     let len = file.len();
     if len < at + 1 {
@@ -76,7 +76,7 @@ fn line_fault(file: &[u8], at: usize, start: usize) -> Fault
 // The first fault of n lines from the first one on, and of the bodies after them.
 fn lines_fault(file: &[u8], n: usize) -> Fault
     requires { n ≤ 16 }
-    ensures { result ≡ linesFault file.now 4 (4 + 43 * n) n }
+    ensures { result ≡ lines_fault file.now 4 (4 + 43 * n) n }
 {
     let mut at: usize = 4;
     let mut start = 4 + 43 * n;
@@ -125,7 +125,7 @@ pub fn first_fault(file: &[u8]) -> Fault
 
 // The first fault of a file, or else of a warrior number.
 pub fn first_fault_at(file: &[u8], number: usize) -> Fault
-    ensures { result ≡ faultAt file.now number }
+    ensures { result ≡ fault_at file.now number }
 {
     if let Fault::At(p) = first_fault(file) {
         return Fault::At(p);

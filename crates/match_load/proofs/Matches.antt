@@ -2,7 +2,7 @@
 -- Assumes nothing.
 use mathlib.Core.Path.{◌≡◌, refl}
 use mathlib.Core.List.{map}
-use Rattle.match_load.specs.inner.Matches.{Row, matches}
+use Rattle.match_load.specs.Inner.Matches.{Row, matches}
 
 pub matches-load : map (λ (r : Row). r.got) matches ≡ map (λ (r : Row). r.wanted) matches
 unfolding matches

@@ -6,8 +6,8 @@ use mathlib.Core.List.{List}
 use lib.Dec.{eqb}
 use Rattle.machine.specs.State.{Machine, joined, Verdict, accepted, refusal, first}
 use Rattle.machine.proofs.SoundMachine.{SoundMachine, load-keeps}
-use Rattle.match_file.specs.Reading.{warriorsIn, warriorOf}
-use Rattle.match_load.specs.Loading.{Loads, loadWarrior, loads, matchChecks, afterChecks, loadMatch}
+use Rattle.match_file.specs.Reading.{warriors_in, warrior_of}
+use Rattle.match_load.specs.Loading.{Loads, load_warrior, loads, match_checks, after_checks, load_match}
 
 either : (P : Loads → Type 0) (b : Bool) (x y : Loads) → P x → P y → P (cond b x y)
 either P true x y p q = p
@@ -16,18 +16,18 @@ either P false x y p q = q
 loads-keep : (f : List ℕ) (k n : ℕ) (m : Machine) → SoundMachine m → SoundMachine (loads f k n m).outcome.machine
 loads-keep f k zero m s = s
 loads-keep f k (suc n) m s =
-    let w = warriorOf f k in
-    let o = loadWarrior f k m in
+    let w = warrior_of f k in
+    let o = load_warrior f k m in
     let more = loads f (k + 1) n o.machine in
     let next = load-keeps m w.name w.body w.origin w.place s in
     either (λ (l : Loads). SoundMachine l.outcome.machine) (eqb o.number 0)
     (record { outcome = joined o more.outcome; warrior = more.warrior }) (record { outcome = o; warrior = k })
     (loads-keep f (k + 1) n o.machine next) next
 
-pub match-keeps : (m : Machine) (f : List ℕ) → SoundMachine m → SoundMachine (loadMatch m f).outcome.machine
-unfolding loadMatch
-match-keeps m f s = go (first (matchChecks m f))
+pub match-keeps : (m : Machine) (f : List ℕ) → SoundMachine m → SoundMachine (load_match m f).outcome.machine
+unfolding load_match
+match-keeps m f s = go (first (match_checks m f))
   where
-    go : (v : Verdict) → SoundMachine (afterChecks v m (loads f 0 (warriorsIn f) m)).outcome.machine
-    go accepted = loads-keep f 0 (warriorsIn f) m s
+    go : (v : Verdict) → SoundMachine (after_checks v m (loads f 0 (warriors_in f) m)).outcome.machine
+    go accepted = loads-keep f 0 (warriors_in f) m s
     go (refusal n v) = s

@@ -3,10 +3,10 @@
 
 ghost use Rattle.std.specs.Prelude.{◌≡◌, true, ℕ, ◌≤◌};
 ghost use Rattle.answer.specs.Numbers.{told};
-ghost use Rattle.machine.specs.Soundness.{soundHeader};
+ghost use Rattle.machine.specs.Soundness.{sound_header};
 ghost use Rattle.lent.specs.Parts.{names_of, parts, machine_of};
-ghost use Rattle.lent.specs.Given.{given, givenBy};
-ghost use Rattle.match_load.specs.Loading.{loadWarrior, loads, loadMatch};
+ghost use Rattle.lent.specs.Given.{given, given_by};
+ghost use Rattle.match_load.specs.Loading.{load_warrior, loads, load_match};
 
 use answer::{Answer, number};
 use encoding::part;
@@ -62,10 +62,10 @@ fn load_one(
     ring: Ring,
     held: u32,
 ) -> Loaded
-    requires { soundHeader (parts core.old queue.old rules ring 0 (names_of held names.old lengths.old) counts.old threads.old) ≡ true }
+    requires { sound_header (parts core.old queue.old rules ring 0 (names_of held names.old lengths.old) counts.old threads.old) ≡ true }
     ensures { (steps : ℕ) → given (told result.answer) result.writes 0
         (parts core.new queue.new rules result.ring steps (names_of result.held names.new lengths.new) counts.new threads.new)
-        ≡ givenBy (loadWarrior file.now warrior (parts core.old queue.old rules ring steps (names_of held names.old lengths.old) counts.old threads.old)) }
+        ≡ given_by (load_warrior file.now warrior (parts core.old queue.old rules ring steps (names_of held names.old lengths.old) counts.old threads.old)) }
 {
     let l = line_in(file, warrior);
     load_parts(
@@ -99,10 +99,10 @@ fn load_all(
     ring: Ring,
     held: u32,
 ) -> AllLoaded
-    requires { (count ≤ 16) × (soundHeader (parts core.old queue.old rules ring 0 (names_of held names.old lengths.old) counts.old threads.old) ≡ true) }
+    requires { (count ≤ 16) × (sound_header (parts core.old queue.old rules ring 0 (names_of held names.old lengths.old) counts.old threads.old) ≡ true) }
     ensures { (steps : ℕ) → (given (told result.answer) result.writes 0
         (parts core.new queue.new rules result.ring steps (names_of result.held names.new lengths.new) counts.new threads.new)
-        ≡ givenBy (loads file.now 0 count (parts core.old queue.old rules ring steps (names_of held names.old lengths.old) counts.old threads.old)).outcome)
+        ≡ given_by (loads file.now 0 count (parts core.old queue.old rules ring steps (names_of held names.old lengths.old) counts.old threads.old)).outcome)
         × (result.warrior ≡ (loads file.now 0 count (parts core.old queue.old rules ring steps (names_of held names.old lengths.old) counts.old threads.old)).warrior) }
 {
     sized(names, lengths, counts, threads);
@@ -140,9 +140,9 @@ fn load_all(
 
 // Loads that many warriors of a file into a record with a sound header: the header is taken apart, and made anew afterwards.
 fn load_warriors(core: &mut [u64], queue: &mut [u64], h: Header, file: &[u8], count: usize) -> Loads
-    requires { (count ≤ 16) × (soundHeader (machine_of core.old queue.old h) ≡ true) }
+    requires { (count ≤ 16) × (sound_header (machine_of core.old queue.old h) ≡ true) }
     ensures { (given (told result.outcome.answer) result.outcome.writes result.outcome.steps (machine_of core.new queue.new result.outcome.header)
-        ≡ givenBy (loads file.now 0 count (machine_of core.old queue.old h)).outcome)
+        ≡ given_by (loads file.now 0 count (machine_of core.old queue.old h)).outcome)
         × (result.warrior ≡ (loads file.now 0 count (machine_of core.old queue.old h)).warrior) }
 {
     let rules = h.rules;
@@ -183,8 +183,8 @@ fn load_warriors(core: &mut [u64], queue: &mut [u64], h: Header, file: &[u8], co
 // Loads every warrior of a match file, one by one in file order, up to the first refused; those before it stand.
 pub fn load_match(core: &mut [u64], queue: &mut [u64], h: Header, file: &[u8]) -> Loads
     ensures { (given (told result.outcome.answer) result.outcome.writes result.outcome.steps (machine_of core.new queue.new result.outcome.header)
-        ≡ givenBy (loadMatch (machine_of core.old queue.old h) file.now).outcome)
-        × (result.warrior ≡ (loadMatch (machine_of core.old queue.old h) file.now).warrior) }
+        ≡ given_by (load_match (machine_of core.old queue.old h) file.now).outcome)
+        × (result.warrior ≡ (load_match (machine_of core.old queue.old h) file.now).warrior) }
 {
     if !sound_header(
         core,

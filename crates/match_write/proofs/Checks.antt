@@ -13,15 +13,15 @@ use Rattle.answer.specs.declared.Answer.{Answer}
 use Rattle.answer.specs.declared.Answer.TheVariants.{Done}
 use Rattle.answer.specs.Numbers.{Told, told}
 use Rattle.laws.proofs.Tests.{neither}
-use Rattle.metadata.specs.Metadata.{validName}
+use Rattle.metadata.specs.Metadata.{valid_name}
 use Rattle.metadata.proofs.Names.{valid-name}
 use Rattle.machine.specs.State.{Check, Verdict, accepted, refusal, first}
 use Rattle.machine.proofs.Checks.{passed, without, others}
 use Rattle.match_format.specs.Format.{Warrior, file}
-use Rattle.match_file.specs.Reading.{warriorsAt}
+use Rattle.match_file.specs.Reading.{warriors_at}
 use Rattle.match_format.proofs.Format.{length_more}
 use Rattle.match_file.proofs.Warriors.{length-warriors, bodies-are, short-names}
-use Rattle.write_checks.specs.Refusal.{Written, given, settle, writeChecks, writeTold}
+use Rattle.write_checks.specs.Refusal.{Written, given, settle, write_checks, write_told}
 use Rattle.match_write.specs.Writing.{checks, write, Earlier}
 use Rattle.laws.proofs.Stores.{stored}
 
@@ -30,7 +30,7 @@ refusing out r e = ap₂ (λ (a : Answer) (k : ℕ). given a k out) r.0 r.1 ∙ 
 
 module _ (f : List ℕ) (n start size : ℕ) (w : Warrior) (out : List ℕ) (earlier : Earlier f n start) where
   abbrev ws : List Warrior
-  ws = warriorsAt f 4 n
+  ws = warriors_at f 4 n
 
   abbrev room : ℕ
   room = 4 + 43 * (n + 1) + (length f - start) + length w.body
@@ -38,31 +38,31 @@ module _ (f : List ℕ) (n start size : ℕ) (w : Warrior) (out : List ℕ) (ear
   how-many : length ws ≡ n
   how-many = length-warriors f 4 n
 
-  how-long : validName w.name ≡ true → length (file size (ws ++ (w ∷ []))) ≡ room
+  how-long : valid_name w.name ≡ true → length (file size (ws ++ (w ∷ []))) ≡ room
   how-long v =
       length_more size n ws w how-many (short-names f 4 start n earlier.lines) (valid-name w.name v).0
       ∙ ap (λ (k : ℕ). 4 + 43 * (n + 1) + k + length w.body) (ap length (bodies-are f 4 start n earlier.lines) ∙ length-drop start f)
 
   -- the checks by numbers; a name that is too long is refused before the file's length is asked for
-  same_first : first (checks size ws w (length out)) ≡ first (writeChecks size n w.name w.body w.place room (length out))
-  same_first = go (validName w.name) refl
+  same_first : first (checks size ws w (length out)) ≡ first (write_checks size n w.name w.body w.place room (length out))
+  same_first = go (valid_name w.name) refl
     where
-      go : (b : Bool) → validName w.name ≡ b
-          → first (checks size ws w (length out)) ≡ first (writeChecks size n w.name w.body w.place room (length out))
-      go true v = ap₂ (λ (x y : ℕ). first (writeChecks size x w.name w.body w.place y (length out))) how-many (how-long v)
+      go : (b : Bool) → valid_name w.name ≡ b
+          → first (checks size ws w (length out)) ≡ first (write_checks size n w.name w.body w.place room (length out))
+      go true v = ap₂ (λ (x y : ℕ). first (write_checks size x w.name w.body w.place y (length out))) how-many (how-long v)
       go false v = simp v
 
-  module _ (answer : Answer) (et : told answer ≡ writeTold size n w.name w.body w.place room (length out)) {r : ℕ} (er : r ≡ (told answer).number) where
+  module _ (answer : Answer) (et : told answer ≡ write_told size n w.name w.body w.place room (length out)) {r : ℕ} (er : r ≡ (told answer).number) where
     abbrev verdict : Verdict
-    verdict = first (writeChecks size n w.name w.body w.place room (length out))
+    verdict = first (write_checks size n w.name w.body w.place room (length out))
 
     number_in : (v : Verdict) → verdict ≡ v → r ≡ (settle v [] []).told.number
-    unfolding writeTold
+    unfolding write_told
     number_in v e = er ∙ ap (λ (x : Told). x.number) (et ∙ ap (λ (v : Verdict). (settle v [] []).told) e)
 
     -- a refusal
     pub refused-is : (r ≡ 0 → ⊥) → given answer 0 out ≡ write size ws w out
-    unfolding write writeTold
+    unfolding write write_told
     refused-is z = go verdict refl
       where
         go : (v : Verdict) → verdict ≡ v → given answer 0 out ≡ write size ws w out
@@ -76,7 +76,7 @@ module _ (f : List ℕ) (n start size : ℕ) (w : Warrior) (out : List ℕ) (ear
       all-passed = go verdict refl
         where
           rows : List Check
-          rows = writeChecks size n w.name w.body w.place room (length out)
+          rows = write_checks size n w.name w.body w.place room (length out)
 
           go : (v : Verdict) → verdict ≡ v → verdict ≡ accepted
           go accepted e = e
@@ -85,8 +85,8 @@ module _ (f : List ℕ) (n start size : ℕ) (w : Warrior) (out : List ℕ) (ear
       -- what the store asks
       pub fits : (n ≤ 15) × (length w.name ≤ 32) × (room ≤ length out)
       fits =
-          let p = passed (writeChecks size n w.name w.body w.place room (length out)) all-passed in
-          let five = neither (not (validName w.name)) (leb size w.place) p.1.1.1.0 in
+          let p = passed (write_checks size n w.name w.body w.place room (length out)) all-passed in
+          let five = neither (not (valid_name w.name)) (leb size w.place) p.1.1.1.0 in
           let six = neither (leb 16 n) (ltb (length out) room) p.1.1.1.1.0 in
           let few : n < 16 = leb-false 16 n six.0 in
           (omega arith, (valid-name w.name (not-false _ five.0)).0, ltb-false (length out) room six.1)
@@ -95,8 +95,8 @@ module _ (f : List ℕ) (n start size : ℕ) (w : Warrior) (out : List ℕ) (ear
       unfolding write
       written d s =
           let made : List ℕ = file size (ws ++ (w ∷ [])) in
-          let p = passed (writeChecks size n w.name w.body w.place room (length out)) all-passed in
-          let five = neither (not (validName w.name)) (leb size w.place) p.1.1.1.0 in
+          let p = passed (write_checks size n w.name w.body w.place room (length out)) all-passed in
+          let five = neither (not (valid_name w.name)) (leb size w.place) p.1.1.1.0 in
           let h : length made ≡ room = how-long (not-false _ five.0) in
           let l = fits.2 in
           ap₂ (λ (k : ℕ) (o : List ℕ). given Done k o) (d ∙ sym h) (s ∙ stored out made (omega arith))

@@ -13,8 +13,8 @@ use Rattle.encoding.specs.Bytes.{spelled}
 use Rattle.program.specs.Program.{instructions}
 use Rattle.match_format.specs.declared.Fault.TheVariants.{Nowhere}
 use Rattle.match_format.specs.Format.{Warrior, line, lines, bodies, file}
-use Rattle.match_format.specs.Faults.{faultAt}
-use Rattle.match_file.specs.Reading.{count_of, warriorAt, warriorOf, warriorsAt}
+use Rattle.match_format.specs.Faults.{fault_at}
+use Rattle.match_file.specs.Reading.{count_of, warrior_at, warrior_of, warriors_at}
 use Rattle.match_format.proofs.Parts.{length_part}
 use Rattle.match_format.proofs.Whole.{LineAt, warrior-ok}
 use Rattle.match_format.proofs.Format.{Short, line_of, length-line, length-lines, file-more}
@@ -49,49 +49,49 @@ line-stored l l1 l2 l3 l4 l5 l6 name p start count origin place h e1 e2 e3 e4 e5
     ∙ sym e6)
 
 -- what reading gives of a warrior number that reads, and one turn of the loop over the lines
-module _ (f : List ℕ) (i : ℕ) (e : faultAt f i ≡ Nowhere) where
+module _ (f : List ℕ) (i : ℕ) (e : fault_at f i ≡ Nowhere) where
   its : LineAt f (4 + 43 * i)
   its = (warrior-ok f i e).its
 
-  short-name : length (warriorOf f i).name ≤ 32
+  short-name : length (warrior_of f i).name ≤ 32
   short-name = rw (length_part f (4 + 43 * i + 1) (get_or f (4 + 43 * i) 0) (omega (arith, its.line.fits, its.line.short))) its.line.short
 
-  pub its-short : {name : List ℕ} → name ≡ (warriorOf f i).name → length name ≤ 32
+  pub its-short : {name : List ℕ} → name ≡ (warrior_of f i).name → length name ≤ 32
   its-short d = rw d short-name
 
-  pub its-count : {c : ℕ} → c ≡ count_of f i → 12 * c ≡ length (warriorOf f i).body
+  pub its-count : {c : ℕ} → c ≡ count_of f i → 12 * c ≡ length (warrior_of f i).body
   its-count d = rw d (sym (length-body f (4 + 43 * i) its))
 
   pub lines-turn : (out out' name : List ℕ) (to n c origin place : ℕ) → i < n
-      → name ≡ (warriorOf f i).name → c ≡ count_of f i
-      → origin ≡ (warriorOf f i).origin → place ≡ (warriorOf f i).place
+      → name ≡ (warrior_of f i).name → c ≡ count_of f i
+      → origin ≡ (warrior_of f i).origin → place ≡ (warrior_of f i).place
       → out' ≡ sets out (4 + 43 * i) (line name to c origin place)
-      → sets out (4 + 43 * i) (lines to (warriorsAt f (4 + 43 * i) (n - i))) ≡ sets out' (4 + 43 * (i + 1)) (lines (to + 12 * c) (warriorsAt f (4 + 43 * (i + 1)) (n - (i + 1))))
+      → sets out (4 + 43 * i) (lines to (warriors_at f (4 + 43 * i) (n - i))) ≡ sets out' (4 + 43 * (i + 1)) (lines (to + 12 * c) (warriors_at f (4 + 43 * (i + 1)) (n - (i + 1))))
   lines-turn out out' name to n c origin place h en ec eo ep s =
       let q : ℕ = 4 + 43 * i in
-      let w : Warrior = warriorAt f q in
+      let w : Warrior = warrior_at f q in
       let z : q + 43 ≡ 4 + 43 * (i + 1) = omega arith in
       let k : line name to c origin place ≡ line_of w to
       = ap₂ (λ (x : List ℕ) (y : ℕ). line x to y origin place) en (ec ∙ sym (count-is f q its))
       ∙ ap₂ (λ (x y : ℕ). line w.name to (instructions w.body) x y) eo ep
       in
-      ap (λ (x : ℕ). sets out q (lines to (warriorsAt f q x))) (fall n i h)
-      ∙ store_then out out' (line_of w to) (lines (to + length w.body) (warriorsAt f (q + 43) (n - (i + 1)))) q (q + 43) (s ∙ ap (sets out q) k)
+      ap (λ (x : ℕ). sets out q (lines to (warriors_at f q x))) (fall n i h)
+      ∙ store_then out out' (line_of w to) (lines (to + length w.body) (warriors_at f (q + 43) (n - (i + 1)))) q (q + 43) (s ∙ ap (sets out q) k)
       (ap (λ (x : ℕ). q + x) (length-line w to short-name))
-      ∙ ap₂ (λ (x y : ℕ). sets out' y (lines (to + x) (warriorsAt f y (n - (i + 1))))) (sym (its-count ec)) z
+      ∙ ap₂ (λ (x y : ℕ). sets out' y (lines (to + x) (warriors_at f y (n - (i + 1))))) (sym (its-count ec)) z
 
   -- the next body's start, and the bodies left
   pub start-turn : (to n c : ℕ) → i < n → c ≡ count_of f i
-      → to + length (bodies (warriorsAt f (4 + 43 * i) (n - i))) ≡ to + 12 * c + length (bodies (warriorsAt f (4 + 43 * (i + 1)) (n - (i + 1))))
+      → to + length (bodies (warriors_at f (4 + 43 * i) (n - i))) ≡ to + 12 * c + length (bodies (warriors_at f (4 + 43 * (i + 1)) (n - (i + 1))))
   start-turn to n c h ec =
       let q : ℕ = 4 + 43 * i in
-      let w : Warrior = warriorAt f q in
-      let ws : List Warrior = warriorsAt f (q + 43) (n - (i + 1)) in
+      let w : Warrior = warrior_at f q in
+      let ws : List Warrior = warriors_at f (q + 43) (n - (i + 1)) in
       let z : q + 43 ≡ 4 + 43 * (i + 1) = omega arith in
-      ap (λ (x : ℕ). to + length (bodies (warriorsAt f q x))) (fall n i h)
+      ap (λ (x : ℕ). to + length (bodies (warriors_at f q x))) (fall n i h)
       ∙ ap (λ (x : ℕ). to + x) (length-append w.body (bodies ws))
-      ∙ ap₂ (λ (x y : ℕ). to + (x + length (bodies (warriorsAt f y (n - (i + 1)))))) (sym (its-count ec)) z
-      ∙ sym (add_assoc to (12 * c) (length (bodies (warriorsAt f (4 + 43 * (i + 1)) (n - (i + 1))))))
+      ∙ ap₂ (λ (x y : ℕ). to + (x + length (bodies (warriors_at f y (n - (i + 1)))))) (sym (its-count ec)) z
+      ∙ sym (add_assoc to (12 * c) (length (bodies (warriors_at f (4 + 43 * (i + 1)) (n - (i + 1))))))
 
 -- how many bytes are left from a position on
 pub rest-length : (f : List ℕ) (start : ℕ) → length (take (length f - start) (drop start f)) ≡ length f - start

@@ -3,9 +3,9 @@
 
 ghost use Rattle.std.specs.Prelude.{◌≡◌};
 ghost use Rattle.match_format.specs.Format.{warrior};
-ghost use Rattle.match_file.specs.Reading.{warriorsAt};
+ghost use Rattle.match_file.specs.Reading.{warriors_at};
 ghost use Rattle.write_checks.specs.Refusal.{given};
-ghost use Rattle.match_write.specs.Writing.{write, writeFirst, writeAdded, Earlier};
+ghost use Rattle.match_write.specs.Writing.{write, write_first, write_added, Earlier};
 
 use answer::{Answer, number};
 use match_file::read;
@@ -42,7 +42,7 @@ fn write(
 ) -> Written
     requires { Earlier file.now n start }
     ensures { given result.answer result.length out.new
-        ≡ write size (warriorsAt file.now 4 n) (warrior name.now body.now origin place) out.old }
+        ≡ write size (warriors_at file.now 4 n) (warrior name.now body.now origin place) out.old }
 {
     let rest = file.len() - start;
     let answer = refusal(n, rest, size, name, body, place, out.len());
@@ -66,7 +66,7 @@ pub fn write_first(
     out: &mut [u8],
 ) -> Written
     ensures { given result.answer result.length out.new
-        ≡ writeFirst size (warrior name.now body.now origin place) out.old }
+        ≡ write_first size (warrior name.now body.now origin place) out.old }
 {
     write(&name[..0], 0, 0, size, name, body, origin, place, out)
 }
@@ -81,7 +81,7 @@ pub fn write_added(
     out: &mut [u8],
 ) -> Written
     ensures { given result.answer result.length out.new
-        ≡ writeAdded file.now (warrior name.now body.now origin place) out.old }
+        ≡ write_added file.now (warrior name.now body.now origin place) out.old }
 {
     let contents = read(file);
     let n = contents.warriors;

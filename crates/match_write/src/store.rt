@@ -4,7 +4,7 @@ ghost use Rattle.std.proofs.lemmas.List.Edits.{sets};
 ghost use Rattle.encoding.specs.Bytes.{spelled};
 ghost use Rattle.match_format.specs.Format.{warrior, line, lines, bodies};
 ghost use Rattle.match_format.specs.Format as format;
-ghost use Rattle.match_file.specs.Reading.{warriorsAt};
+ghost use Rattle.match_file.specs.Reading.{warriors_at};
 ghost use Rattle.match_write.specs.Writing.{Earlier};
 
 use encoding::part;
@@ -55,8 +55,8 @@ fn put_line(
 // Stores the lines of n warriors of a file, the first body at `first`. Gives the start of the body after theirs.
 fn put_lines(out: &mut [u8], file: &[u8], n: usize, start: usize, first: usize) -> usize
     requires { (n ≤ 15) × Earlier file.now n start × (first ≤ 735) × (4 + 43 * n ≤ length out.old) }
-    ensures { (result ≡ first + length (bodies (warriorsAt file.now 4 n)))
-        × (out.new ≡ sets out.old 4 (lines first (warriorsAt file.now 4 n))) }
+    ensures { (result ≡ first + length (bodies (warriors_at file.now 4 n)))
+        × (out.new ≡ sets out.old 4 (lines first (warriors_at file.now 4 n))) }
 {
     let mut to = first;
     let mut i: usize = 0;
@@ -87,7 +87,7 @@ pub(crate) fn store_file(
         × (4 + 43 * (n + 1) + (length file.now - start) + length body.now ≤ length out.old) }
     ensures { (result ≡ 4 + 43 * (n + 1) + (length file.now - start) + length body.now)
         × (out.new ≡ sets out.old 0
-        (format.file size (warriorsAt file.now 4 n ++ (warrior name.now body.now origin place ∷ [])))) }
+        (format.file size (warriors_at file.now 4 n ++ (warrior name.now body.now origin place ∷ [])))) }
 {
     let warriors = n + 1;
     out[0] = warriors as u8;

@@ -2,11 +2,11 @@
 #![tactic(auto)]
 
 ghost use Rattle.std.specs.Prelude.{◌≡◌};
-ghost use Rattle.metadata.specs.Metadata.{validName};
+ghost use Rattle.metadata.specs.Metadata.{valid_name};
 
 // Whether a name has at most 32 bytes, each of 33 to 126.
 pub fn valid_name(name: &[u8]) -> bool
-    ensures { result ≡ validName name.now }
+    ensures { result ≡ valid_name name.now }
 {
     if name.len() > 32 {
         return false;

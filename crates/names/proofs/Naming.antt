@@ -15,7 +15,7 @@ use Rattle.laws.proofs.Lists.{drop-first}
 use Rattle.machine.specs.declared.Header.{Header}
 use Rattle.machine.specs.declared.Roster.{Roster}
 use Rattle.machine.specs.Names.{register}
-use Rattle.lent.specs.Parts.{headerOf, registerIf}
+use Rattle.lent.specs.Parts.{header_of, register_if}
 
 -- names of other lengths are not the same
 pub differ : (a b : List ℕ) → (length a ≡ length b → ⊥) → false ≡ same a b
@@ -61,16 +61,16 @@ module _ (name names₀ names : List ℕ) (start i : ℕ) (short : length name �
 
 -- a name registered, or not
 module _ (h : Header) (name : List ℕ) where
-  pub none_free : 16 ≤ h.names.held → h ≡ registerIf h name
-  unfolding registerIf
+  pub none_free : 16 ≤ h.names.held → h ≡ register_if h name
+  unfolding register_if
   none_free l = simp (le-ltb _ _ l)
 
-  pub too_long : 32 < length name → h ≡ registerIf h name
-  unfolding registerIf
+  pub too_long : 32 < length name → h ≡ register_if h name
+  unfolding register_if
   too_long l = simp (lt-leb _ _ l, and-false)
 
   pub registered-is : {names : Roster} {counts threads : List ℕ} → h.names.held < 16 → length name ≤ 32
-      → headerOf h.rules h.ring names counts threads ≡ register h name
-      → headerOf h.rules h.ring names counts threads ≡ registerIf h name
-  unfolding registerIf
+      → header_of h.rules h.ring names counts threads ≡ register h name
+      → header_of h.rules h.ring names counts threads ≡ register_if h name
+  unfolding register_if
   registered-is l k e = e ∙ simp (lt-ltb _ _ l, le-leb _ _ k)

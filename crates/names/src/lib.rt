@@ -5,7 +5,7 @@ ghost use Rattle.std.specs.Prelude.{◌≡◌, cond, ◌++◌, ◌-◌, ◌*◌,
 ghost use Rattle.std.proofs.lemmas.List.Edits.{sets};
 ghost use Rattle.laws.specs.Lists.{same};
 ghost use Rattle.machine.specs.Names.{name_at, slot};
-ghost use Rattle.lent.specs.Parts.{names_of, named_of, registerIf};
+ghost use Rattle.lent.specs.Parts.{names_of, named_of, register_if};
 
 use encoding::byte;
 
@@ -91,7 +91,7 @@ pub fn register(
     name: &[u8],
 ) -> u32
     ensures { named_of (names_of result names.new lengths.new) counts.new threads.new
-        ≡ registerIf (named_of (names_of held names.old lengths.old) counts.old threads.old) name.now }
+        ≡ register_if (named_of (names_of held names.old lengths.old) counts.old threads.old) name.now }
 {
     if 16 <= held {
         return held;

@@ -14,12 +14,12 @@ use Rattle.laws.proofs.Lists.{fall}
 use Rattle.laws.proofs.Stores.{store_then}
 use Rattle.machine.specs.declared.Header.{Header}
 use Rattle.machine.specs.Names.{name_at}
-use Rattle.printing.specs.Text.{decimal, line_of, nameLines, refusalText, runText, runTextIf, Puts}
+use Rattle.printing.specs.Text.{decimal, line_of, name_lines, refusal_text, run_text, run_text_if, Puts}
 use Rattle.printing.proofs.Puts.{then}
 
 -- a refusal but 13: the number
 pub refusal-short : (t : Told) {w : ℕ} {l m n : List ℕ} {q r : ℕ} → w ≡ t.number → (w ≡ 13 → ⊥) → Puts l m 0 q (decimal w) → Puts m n q r (10 ∷ [])
-    → Puts l n 0 r (refusalText t)
+    → Puts l n 0 r (refusal_text t)
 refusal-short t {l = l} {n = n} {r = r} e other a b =
     subst (Puts l n 0 r)
     (ap (λ (k : ℕ). decimal k ++ (10 ∷ [])) e
@@ -28,7 +28,7 @@ refusal-short t {l = l} {n = n} {r = r} e other a b =
 
 -- 13: the number and its position
 pub refusal-long : (t : Told) {w v : ℕ} {l m n o z : List ℕ} {q r s u : ℕ} → w ≡ t.number → w ≡ 13 → v ≡ t.value
-    → Puts l m 0 q (decimal w) → Puts m n q r (32 ∷ []) → Puts n o r s (decimal v) → Puts o z s u (10 ∷ []) → Puts l z 0 u (refusalText t)
+    → Puts l m 0 q (decimal w) → Puts m n q r (32 ∷ []) → Puts n o r s (decimal v) → Puts o z s u (10 ∷ []) → Puts l z 0 u (refusal_text t)
 refusal-long t {v = v} {l = l} {z = z} {u = u} e is f a b c d =
     subst (Puts l z 0 u)
     (ap (λ (k : ℕ). decimal k ++ (32 ∷ (decimal v ++ (10 ∷ [])))) e
@@ -37,16 +37,16 @@ refusal-long t {v = v} {l = l} {z = z} {u = u} e is f a b c d =
     (then a (then b (then c d)))
 
 -- the lines of a run by the answer's number
-pub run-text : {w number : ℕ} (steps writes : ℕ) (h : Header) {l m : List ℕ} {q : ℕ} → h.names.held ≤ 16 → w ≡ number → Puts l m 0 q (runText w steps writes h)
-    → Puts l m 0 q (runTextIf number steps writes h)
+pub run-text : {w number : ℕ} (steps writes : ℕ) (h : Header) {l m : List ℕ} {q : ℕ} → h.names.held ≤ 16 → w ≡ number → Puts l m 0 q (run_text w steps writes h)
+    → Puts l m 0 q (run_text_if number steps writes h)
 run-text {number = number} steps writes h {l = l} {m = m} {q = q} few e a =
-    subst (λ (b : Bool). Puts l m 0 q (cond b (runText number steps writes h) [])) (sym (le-leb h.names.held 16 few))
-    (subst (λ (k : ℕ). Puts l m 0 q (runText k steps writes h)) e a)
+    subst (λ (b : Bool). Puts l m 0 q (cond b (run_text number steps writes h) [])) (sym (le-leb h.names.held 16 few))
+    (subst (λ (k : ℕ). Puts l m 0 q (run_text k steps writes h)) e a)
 
 -- a header that holds more than 16 names
-pub no_text : (number steps writes : ℕ) (h : Header) (l : List ℕ) → 16 < h.names.held → Puts l l 0 0 (runTextIf number steps writes h)
+pub no_text : (number steps writes : ℕ) (h : Header) (l : List ℕ) → 16 < h.names.held → Puts l l 0 0 (run_text_if number steps writes h)
 no_text number steps writes h l many =
-    subst (λ (b : Bool). Puts l l 0 0 (cond b (runText number steps writes h) [])) (sym (lt-leb h.names.held 16 many))
+    subst (λ (b : Bool). Puts l l 0 0 (cond b (run_text number steps writes h) [])) (sym (lt-leb h.names.held 16 many))
     (record { out = refl; to = refl; inside = omega arith })
 
 -- a name is a part of the names' bytes
@@ -61,8 +61,8 @@ pub record Left (h : Header) (l out : List ℕ) (p to i : ℕ) : Type 0 where
   pub inside : i ≤ h.names.held
   pub kept : length out ≡ length l
   pub room : to + 540 * (h.names.held - i) ≤ length out
-  pub bytes : sets l p (nameLines h 0 h.names.held) ≡ sets out to (nameLines h i (h.names.held - i))
-  pub ends : p + length (nameLines h 0 h.names.held) ≡ to + length (nameLines h i (h.names.held - i))
+  pub bytes : sets l p (name_lines h 0 h.names.held) ≡ sets out to (name_lines h i (h.names.held - i))
+  pub ends : p + length (name_lines h 0 h.names.held) ≡ to + length (name_lines h i (h.names.held - i))
 
 module _ (h : Header) (l : List ℕ) (p : ℕ) where
   pub begun : p + 8640 ≤ length l → h.names.held ≤ 16 → Left h l l p p 0
@@ -72,17 +72,17 @@ module _ (h : Header) (l : List ℕ) (p : ℕ) where
         inside = omega arith;
         kept = refl;
         room = omega arith;
-        bytes = ap (λ (k : ℕ). sets l p (nameLines h 0 k)) all;
-        ends = ap (λ (k : ℕ). p + length (nameLines h 0 k)) all;
+        bytes = ap (λ (k : ℕ). sets l p (name_lines h 0 k)) all;
+        ends = ap (λ (k : ℕ). p + length (name_lines h 0 k)) all;
       }
 
   module _ (out : List ℕ) (to i : ℕ) (left : Left h l out p to i) where
-    pub over : h.names.held ≤ i → Puts l out p to (nameLines h 0 h.names.held)
+    pub over : h.names.held ≤ i → Puts l out p to (name_lines h 0 h.names.held)
     over e =
         let none : h.names.held - i ≡ 0 = omega arith in
         record {
-          out = sym (left.bytes ∙ ap (λ (k : ℕ). sets out to (nameLines h i k)) none);
-          to = sym (left.ends ∙ ap (λ (k : ℕ). to + length (nameLines h i k)) none ∙ add-zero to);
+          out = sym (left.bytes ∙ ap (λ (k : ℕ). sets out to (name_lines h i k)) none);
+          to = sym (left.ends ∙ ap (λ (k : ℕ). to + length (name_lines h i k)) none ∙ add-zero to);
           inside = let r = left.room in let k = left.kept in omega arith;
         }
 
@@ -91,13 +91,13 @@ module _ (h : Header) (l : List ℕ) (p : ℕ) where
     turn name out' to' below is short puts same =
         let one = fall h.names.held i below in
         let line = subst (λ (n : List ℕ). Puts out out' to to' (line_of n (get_or h.counts i 0))) is puts.0 in
-        let rest = nameLines h (i + 1) (h.names.held - (i + 1)) in
+        let rest = name_lines h (i + 1) (h.names.held - (i + 1)) in
         record {
           inside = omega arith;
           kept = same ∙ left.kept;
           room = let r = left.room in let t = puts.1 in omega arith;
-          bytes = left.bytes ∙ ap (λ (k : ℕ). sets out to (nameLines h i k)) one ∙ store_then out out' (line_of (name_at h.names i) (get_or h.counts i 0)) rest to to' line.out (sym line.to);
+          bytes = left.bytes ∙ ap (λ (k : ℕ). sets out to (name_lines h i k)) one ∙ store_then out out' (line_of (name_at h.names i) (get_or h.counts i 0)) rest to to' line.out (sym line.to);
           ends =
-              left.ends ∙ ap (λ (k : ℕ). to + length (nameLines h i k)) one ∙ ap (λ (k : ℕ). to + k) (length-append (line_of (name_at h.names i) (get_or h.counts i 0)) rest)
+              left.ends ∙ ap (λ (k : ℕ). to + length (name_lines h i k)) one ∙ ap (λ (k : ℕ). to + k) (length-append (line_of (name_at h.names i) (get_or h.counts i 0)) rest)
               ∙ sym (add_assoc to (length (line_of (name_at h.names i) (get_or h.counts i 0))) (length rest)) ∙ ap (λ (k : ℕ). k + length rest) (sym line.to);
         }

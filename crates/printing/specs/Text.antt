@@ -20,24 +20,24 @@ unfoldable pub line_of : List ℕ → ℕ → List ℕ
 line_of name count = name ++ (32 ∷ (decimal count ++ (10 ∷ [])))
 
 -- name and count for each name in order of first load: of the n names from slot i on
-abbrev pub nameLines : Header → ℕ → ℕ → List ℕ
-nameLines h i zero = []
-nameLines h i (suc n) = line_of (name_at h.names i) (get_or h.counts i 0) ++ nameLines h (i + 1) n
+abbrev pub name_lines : Header → ℕ → ℕ → List ℕ
+name_lines h i zero = []
+name_lines h i (suc n) = line_of (name_at h.names i) (get_or h.counts i 0) ++ name_lines h (i + 1) n
 
 -- refused earlier: one line, the number, and for 13 its position
 abbrev pub position : Told → List ℕ
 position t = cond (eqb t.number 13) (32 ∷ decimal t.value) []
 
-abbrev pub refusalText : Told → List ℕ
-refusalText t = decimal t.number ++ (position t ++ (10 ∷ []))
+abbrev pub refusal_text : Told → List ℕ
+refusal_text t = decimal t.number ++ (position t ++ (10 ∷ []))
 
 -- answer, steps, writes of the run; then the names
-abbrev pub runText : ℕ → ℕ → ℕ → Header → List ℕ
-runText number steps writes h = decimal number ++ (32 ∷ (decimal steps ++ (32 ∷ (decimal writes ++ (10 ∷ nameLines h 0 h.names.held)))))
+abbrev pub run_text : ℕ → ℕ → ℕ → Header → List ℕ
+run_text number steps writes h = decimal number ++ (32 ∷ (decimal steps ++ (32 ∷ (decimal writes ++ (10 ∷ name_lines h 0 h.names.held)))))
 
 -- a header that holds more than 16 names is not printed
-abbrev pub runTextIf : ℕ → ℕ → ℕ → Header → List ℕ
-runTextIf number steps writes h = cond (leb h.names.held 16) (runText number steps writes h) []
+abbrev pub run_text_if : ℕ → ℕ → ℕ → Header → List ℕ
+run_text_if number steps writes h = cond (leb h.names.held 16) (run_text number steps writes h) []
 
 -- a call on l that leaves m and gives q has put xs at p, inside l
 pub record Puts (l m : List ℕ) (p q : ℕ) (xs : List ℕ) : Type 0 where

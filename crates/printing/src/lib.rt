@@ -60,7 +60,7 @@ fn sized(names: &[u8; 512])
 // Puts the names held and their counts.
 fn put_names(out: &mut [u8], at: usize, h: Header) -> usize
     requires { (at + 8640 ≤ length out.old) × (h.names.held ≤ 16) }
-    ensures { Puts out.old out.new at result (spec.nameLines h 0 h.names.held) }
+    ensures { Puts out.old out.new at result (spec.name_lines h 0 h.names.held) }
 {
     sized(&h.names.bytes);
     let held = h.names.held as usize;
@@ -76,7 +76,7 @@ fn put_names(out: &mut [u8], at: usize, h: Header) -> usize
 
 // Puts the line of a refusal: the number, and for 13 its position.
 pub fn put_refusal(out: &mut [u8; 16384], answer: Answer) -> usize
-    ensures { Puts out.old out.new 0 result (spec.refusalText (told answer)) }
+    ensures { Puts out.old out.new 0 result (spec.refusal_text (told answer)) }
 {
     let text = &mut out[..];
     let which = number(answer);
@@ -91,7 +91,7 @@ pub fn put_refusal(out: &mut [u8; 16384], answer: Answer) -> usize
 
 // Puts the lines of a run: answer, steps and writes, then the names; none where the header holds more than 16 names.
 pub fn put_run(out: &mut [u8; 16384], answer: Answer, steps: u64, writes: u64, h: Header) -> usize
-    ensures { Puts out.old out.new 0 result (spec.runTextIf (told answer).number steps writes h) }
+    ensures { Puts out.old out.new 0 result (spec.run_text_if (told answer).number steps writes h) }
 {
     if h.names.held > 16 {
         return 0;

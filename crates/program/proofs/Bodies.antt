@@ -14,7 +14,7 @@ use Rattle.laws.specs.Lists.{lowest}
 use Rattle.laws.proofs.Lists.{fall, done, sets-past}
 use Rattle.cell.specs.Cells.{packed}
 use Rattle.program.proofs.Front.{cut_short}
-use Rattle.program.specs.Program.{instructions, split, lawful, lowestFault, cell_of, cells}
+use Rattle.program.specs.Program.{instructions, split, lawful, lowest_fault, cell_of, cells}
 
 -- what is left of n instructions from the i-th on
 abbrev pub rest : List ℕ → ℕ → ℕ → List (List ℕ)
@@ -31,34 +31,34 @@ rest-none body n i h = rw (done n i h)
 
 -- the lowest faulty index, where the first i instructions are lawful
 abbrev pub From : List ℕ → ℕ → Type 0
-From body i = lowestFault body ≡ i + lowest (λ x. not (lawful x)) (rest body (instructions body) i)
+From body i = lowest_fault body ≡ i + lowest (λ x. not (lawful x)) (rest body (instructions body) i)
 
 module _ (body : List ℕ) (i : ℕ) (so_far : From body i) where
   step : i < instructions body
-      → lowestFault body ≡ i + cond (not (lawful (take 12 (drop (12 * i) body)))) 0 (suc (lowest (λ x. not (lawful x)) (rest body (instructions body) (i + 1))))
+      → lowest_fault body ≡ i + cond (not (lawful (take 12 (drop (12 * i) body)))) 0 (suc (lowest (λ x. not (lawful x)) (rest body (instructions body) (i + 1))))
   step h = so_far ∙ rw (rest-first body (instructions body) i h)
 
-  pub found : i < instructions body → lawful (take 12 (drop (12 * i) body)) ≡ false → i ≡ lowestFault body
+  pub found : i < instructions body → lawful (take 12 (drop (12 * i) body)) ≡ false → i ≡ lowest_fault body
   found h e = sym (rw e at (step h) ∙ omega arith)
 
   pub further : i < instructions body → lawful (take 12 (drop (12 * i) body)) ≡ true → From body (i + 1)
   further h e = rw e at (step h) ∙ omega arith
 
-  pub nowhere : i ≤ instructions body → instructions body ≤ i → instructions body ≡ lowestFault body
+  pub nowhere : i ≤ instructions body → instructions body ≤ i → instructions body ≡ lowest_fault body
   nowhere l h = sym (so_far ∙ rw (rest-none body (instructions body) i h) (omega arith))
 
 -- past the last whole instruction: one cut short is faulty
-pub past_whole : (body : List ℕ) (i : ℕ) → From body i → i ≡ length body / 12 → i ≡ lowestFault body
+pub past_whole : (body : List ℕ) (i : ℕ) → From body i → i ≡ length body / 12 → i ≡ lowest_fault body
 past_whole body i so_far e = ⊎_elim whole cut (let l : i ≤ instructions body = omega arith in eq-or-lt_of_le l)
   where
-    whole : i ≡ instructions body → i ≡ lowestFault body
+    whole : i ≡ instructions body → i ≡ lowest_fault body
     whole q = q ∙ nowhere body i so_far (omega arith) (omega arith)
 
-    cut : i < instructions body → i ≡ lowestFault body
+    cut : i < instructions body → i ≡ lowest_fault body
     cut h = found body i so_far h (sym (cut_short (drop (12 * i) body) (rw length-drop (omega arith))))
 
 pub from_start : (body : List ℕ) → From body 0
-unfolding lowestFault
+unfolding lowest_fault
 from_start body = rw (sub-zero, zero-add)
 
 -- the words of instructions

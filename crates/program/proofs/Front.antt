@@ -14,10 +14,10 @@ use Rattle.laws.proofs.Tests.{and-false, and_assoc, and-true}
 use Rattle.laws.proofs.Lists.{drop-first}
 use Rattle.offset.specs.Offset.{euclid}
 use Rattle.cell.specs.Cells.{packed, relative}
-use Rattle.types.specs.Defaults.{defaultOf}
+use Rattle.types.specs.Defaults.{default_of}
 use Rattle.cell.proofs.Words.{cell-ext}
 use Rattle.encoding.specs.Bytes.{part, value, signed}
-use Rattle.program.specs.Program.{modifierOf, lawful, cell_of}
+use Rattle.program.specs.Program.{modifier_of, lawful, cell_of}
 
 -- the first of a part
 pub part-first : (bytes : List ℕ) (p k : ℕ) → p < length bytes → part bytes p (suc k) ≡ get_or bytes p 0 ∷ part bytes (p + 1) k
@@ -28,10 +28,10 @@ module _ (front : List ℕ) where
   at k h = get_or-take 12 front k 0 h
 
   -- modifier 255 means the default
-  pub resolved : {m : ℕ} → get_or front 1 0 ≡ 255 → m ≡ defaultOf (get_or front 0 0) (get_or front 2 0) (get_or front 3 0) → m ≡ modifierOf (take 12 front)
+  pub resolved : {m : ℕ} → get_or front 1 0 ≡ 255 → m ≡ default_of (get_or front 0 0) (get_or front 2 0) (get_or front 3 0) → m ≡ modifier_of (take 12 front)
   resolved e p = rw (at 1 (lit< tt), at 0 (lit< tt), at 2 (lit< tt), at 3 (lit< tt)) (simp (eq-eqb (get_or front 1 0) 255 e) p)
 
-  pub named : (get_or front 1 0 ≡ 255 → ⊥) → get_or front 1 0 ≡ modifierOf (take 12 front)
+  pub named : (get_or front 1 0 ≡ 255 → ⊥) → get_or front 1 0 ≡ modifier_of (take 12 front)
   named n = rw (at 1 (lit< tt)) (simp (ne_eqb (get_or front 1 0) 255 n))
 
   -- an instruction cut short is faulty
@@ -42,7 +42,7 @@ module _ (front : List ℕ) where
       short : length (take 12 front) ≡ length front
       short = length-take 12 front ∙ (omega arith)
 
-  pub whole : (m : ℕ) → 12 ≤ length front → m ≡ modifierOf (take 12 front)
+  pub whole : (m : ℕ) → 12 ≤ length front → m ≡ modifier_of (take 12 front)
       → (leb (get_or front 0 0) 18 && leb m 6 && leb (get_or front 2 0) 7 && leb (get_or front 3 0) 7) ≡ lawful (take 12 front)
   unfolding lawful
   whole m h e =
@@ -51,15 +51,15 @@ module _ (front : List ℕ) where
   -- it is faulty where one code is out of range, else its modifier decides
   module _ (long : 12 ≤ length front) where
     pub bad_opcode : 18 < get_or front 0 0 → false ≡ lawful (take 12 front)
-    bad_opcode h = simp (lt-leb (get_or front 0 0) 18 h) at (whole (modifierOf (take 12 front)) long refl)
+    bad_opcode h = simp (lt-leb (get_or front 0 0) 18 h) at (whole (modifier_of (take 12 front)) long refl)
 
     pub bad_a-mode : 7 < get_or front 2 0 → false ≡ lawful (take 12 front)
-    bad_a-mode h = simp (lt-leb (get_or front 2 0) 7 h, and-false) at (whole (modifierOf (take 12 front)) long refl)
+    bad_a-mode h = simp (lt-leb (get_or front 2 0) 7 h, and-false) at (whole (modifier_of (take 12 front)) long refl)
 
     pub bad_b-mode : 7 < get_or front 3 0 → false ≡ lawful (take 12 front)
-    bad_b-mode h = simp (lt-leb (get_or front 3 0) 7 h, and-false) at (whole (modifierOf (take 12 front)) long refl)
+    bad_b-mode h = simp (lt-leb (get_or front 3 0) 7 h, and-false) at (whole (modifier_of (take 12 front)) long refl)
 
-    pub modifier_decides : (m : ℕ) → m ≡ modifierOf (take 12 front) → get_or front 0 0 ≤ 18 → get_or front 2 0 ≤ 7 → get_or front 3 0 ≤ 7
+    pub modifier_decides : (m : ℕ) → m ≡ modifier_of (take 12 front) → get_or front 0 0 ≤ 18 → get_or front 2 0 ≤ 7 → get_or front 3 0 ≤ 7
         → leb m 6 ≡ lawful (take 12 front)
     modifier_decides m e f g h =
         simp (le-leb (get_or front 0 0) 18 f, le-leb (get_or front 2 0) 7 g, le-leb (get_or front 3 0) 7 h, and-true) at (whole m long e)
@@ -81,7 +81,7 @@ module _ (front : List ℕ) where
       )
 
   -- the word, from what was read
-  pub word-is : (size : ℕ) {m na nb a b : ℕ} {za zb : ℤ} → 12 ≤ length front → m ≡ modifierOf (take 12 front)
+  pub word-is : (size : ℕ) {m na nb a b : ℕ} {za zb : ℤ} → 12 ≤ length front → m ≡ modifier_of (take 12 front)
       → na ≡ value (get_or front 4 0 ∷ get_or front 5 0 ∷ get_or front 6 0 ∷ get_or front 7 0 ∷ []) → za ≡ signed na → a ≡ euclid za size
       → nb ≡ value (get_or front 8 0 ∷ get_or front 9 0 ∷ get_or front 10 0 ∷ get_or front 11 0 ∷ []) → zb ≡ signed nb → b ≡ euclid zb size
       → packed (record { opcode = get_or front 0 0; modifier = m; a_mode = get_or front 2 0; b_mode = get_or front 3 0; a = relative a; b = relative b })

@@ -13,13 +13,13 @@ use borrow.Author.Tests.{eqb-true, leb-true, ltb-false, not-false}
 use Rattle.laws.proofs.Tests.{holds}
 use Rattle.laws.proofs.Every.{Every}
 use Rattle.laws.proofs.Lowest.{lowest-none}
-use Rattle.cell.specs.Cells.{packed, soundWord}
+use Rattle.cell.specs.Cells.{packed, sound_word}
 use Rattle.types.specs.Opcode.{STP}
 use Rattle.types.specs.Modifier.{I}
 use Rattle.types.specs.Mode.{PostIncIndirectB}
 use Rattle.offset.proofs.Offsets.{euclid-lt}
 use Rattle.cell.proofs.Soundness.{Sound, fields-sound}
-use Rattle.program.specs.Program.{instructions, split, opcode_of, aModeOf, bModeOf, modifierOf, lawful, lowestFault, cell_of, cells}
+use Rattle.program.specs.Program.{instructions, split, opcode_of, a_mode_of, b_mode_of, modifier_of, lawful, lowest_fault, cell_of, cells}
 
 pub length-split : (n : ℕ) (body : List ℕ) → length (split n body) ≡ n
 length-split zero body = refl
@@ -65,27 +65,27 @@ fewer P (suc k) (suc n) body l e = (e.0, fewer P k n (drop 12 body) (le_of_suc-l
 pub record Lawful (x : List ℕ) : Type 0 where
   pub whole : length x ≡ 12
   pub opcode : opcode_of x ≤ STP
-  pub modifier : modifierOf x ≤ I
-  pub a-mode : aModeOf x ≤ PostIncIndirectB
-  pub b-mode : bModeOf x ≤ PostIncIndirectB
+  pub modifier : modifier_of x ≤ I
+  pub a_mode : a_mode_of x ≤ PostIncIndirectB
+  pub b_mode : b_mode_of x ≤ PostIncIndirectB
 
 pub lawful-fields : (x : List ℕ) → not (lawful x) ≡ false → Lawful x
 unfolding lawful
 lawful-fields x e =
     let h = holds
-    (eqb (length x) 12 ∷ leb (opcode_of x) STP ∷ leb (modifierOf x) I ∷ leb (aModeOf x) PostIncIndirectB ∷ leb (bModeOf x) PostIncIndirectB ∷ [])
+    (eqb (length x) 12 ∷ leb (opcode_of x) STP ∷ leb (modifier_of x) I ∷ leb (a_mode_of x) PostIncIndirectB ∷ leb (b_mode_of x) PostIncIndirectB ∷ [])
     (not-false _ e) in
     record {
       whole = eqb-true _ _ h.0;
       opcode = leb-true _ _ h.1.0;
       modifier = leb-true _ _ h.1.1.0;
-      a-mode = leb-true _ _ h.1.1.1.0;
-      b-mode = leb-true _ _ h.1.1.1.1.0;
+      a_mode = leb-true _ _ h.1.1.1.0;
+      b_mode = leb-true _ _ h.1.1.1.1.0;
     }
 
 -- where no instruction is faulty, all are lawful
-pub all-lawful : (body : List ℕ) → ltb (lowestFault body) (instructions body) ≡ false → Every (λ x. not (lawful x) ≡ false) (split (instructions body) body)
-unfolding lowestFault
+pub all-lawful : (body : List ℕ) → ltb (lowest_fault body) (instructions body) ≡ false → Every (λ x. not (lawful x) ≡ false) (split (instructions body) body)
+unfolding lowest_fault
 all-lawful body e =
     lowest-none (λ x. not (lawful x)) (split (instructions body) body) (rw (length-split (instructions body) body) (ltb-false _ _ e))
 
@@ -99,7 +99,7 @@ twelve-each (suc n) body e =
     let a : length x + length (drop 12 body) ≡ length body = sym (length-append x (drop 12 body)) ∙ ap length (take-append-drop 12 body) in
     omega arith
 
-pub lawful-whole : (body : List ℕ) → ltb (lowestFault body) (instructions body) ≡ false → length body ≡ 12 * instructions body
+pub lawful-whole : (body : List ℕ) → ltb (lowest_fault body) (instructions body) ≡ false → length body ≡ 12 * instructions body
 lawful-whole body e = let l : 12 * instructions body ≤ length body = twelve-each (instructions body) body (all-lawful body e) in omega arith
 
 module _ (size : ℕ) (positive : 0 < size) (small : size ≤ 65536) where
@@ -109,17 +109,17 @@ module _ (size : ℕ) (positive : 0 < size) (small : size ≤ 65536) where
       record {
         opcode = h.opcode;
         modifier = h.modifier;
-        a-mode = omega (arith, h.a-mode);
-        b-mode = omega (arith, h.b-mode);
+        a_mode = omega (arith, h.a_mode);
+        b_mode = omega (arith, h.b_mode);
         a = euclid-lt _ size positive;
         b = euclid-lt _ size positive;
       }
 
-  words-sound : (xs : List (List ℕ)) → Every (λ x. not (lawful x) ≡ false) xs → Every (λ w. soundWord size w ≡ true) (map (λ x. packed (cell_of size x)) xs)
+  words-sound : (xs : List (List ℕ)) → Every (λ x. not (lawful x) ≡ false) xs → Every (λ w. sound_word size w ≡ true) (map (λ x. packed (cell_of size x)) xs)
   words-sound [] e = tt
   words-sound (x ∷ xs) e = (fields-sound size (cell_of size x) small (lawful-cell x e.0), words-sound xs e.1)
 
-  pub cells-sound : (body : List ℕ) → ltb (lowestFault body) (instructions body) ≡ false → Every (λ w. soundWord size w ≡ true) (cells size body)
+  pub cells-sound : (body : List ℕ) → ltb (lowest_fault body) (instructions body) ≡ false → Every (λ w. sound_word size w ≡ true) (cells size body)
   unfolding cells
   cells-sound body e =
       words-sound (split (length body / 12) body)

@@ -4,7 +4,7 @@
 ghost use Rattle.std.specs.Prelude.{◌≡◌, ◌≤◌, length, take};
 ghost use Rattle.std.proofs.lemmas.List.Edits.{sets};
 ghost use Rattle.cell.specs.Cells.{packed};
-ghost use Rattle.program.specs.Program.{instructions, modifierOf, lawful, lowestFault, cell_of, cells};
+ghost use Rattle.program.specs.Program.{instructions, modifier_of, lawful, lowest_fault, cell_of, cells};
 
 use cell::{Cell, pack};
 use encoding::{number32, signed};
@@ -25,7 +25,7 @@ pub fn len(body: &[u8]) -> usize
 // The modifier of the instruction at the front, 255 resolved.
 fn modifier_of(front: &[u8]) -> u8
     requires { 12 ≤ length front.now }
-    ensures { result ≡ modifierOf (take 12 front.now) }
+    ensures { result ≡ modifier_of (take 12 front.now) }
 {
     let modifier = front[1];
     if modifier == UNNAMED {
@@ -57,7 +57,7 @@ fn is_lawful(front: &[u8]) -> bool
 
 // The lowest index of a faulty instruction; how many there are where none is. One cut short, which is the last, is faulty.
 pub fn lowest_fault(body: &[u8]) -> usize
-    ensures { result ≡ lowestFault body.now }
+    ensures { result ≡ lowest_fault body.now }
 {
     let whole = body.len() / 12;
     let mut i: usize = 0;

@@ -4,7 +4,7 @@
 ghost use Rattle.std.specs.Prelude.{◌≡◌, cond, [], eqb, ℕ, ◌+◌};
 ghost use Rattle.offset.specs.Offset.{ahead};
 ghost use Rattle.machine.specs.Queue as spec;
-ghost use Rattle.lent.specs.Parts.{queueOf, pushIf, startIf};
+ghost use Rattle.lent.specs.Parts.{queue_of, push_if, start_if};
 
 use entry::pack;
 use machine::limits::{LAST_NUMBER, MOST_ENTRIES};
@@ -13,7 +13,7 @@ use offset::Absolute;
 
 // Whether there is no room for an entry, of any name.
 pub fn full(queue: &[u64], ring: Ring) -> bool
-    ensures { (i : ℕ) → result ≡ spec.full (queueOf queue.now ring [] []) i }
+    ensures { (i : ℕ) → result ≡ spec.full (queue_of queue.now ring [] []) i }
 {
     queue.len() <= ring.length as usize
 }
@@ -49,8 +49,8 @@ fn more(n: u32) -> u32
 
 // Puts an entry behind the last one, and its name's count rises; where there is no room it changes nothing.
 fn push(queue: &mut [u64], ring: Ring, counts: &mut [u32; 16], e: Entry) -> Ring
-    ensures { queueOf queue.new result counts.new []
-        ≡ pushIf e (queueOf queue.old ring counts.old []) }
+    ensures { queue_of queue.new result counts.new []
+        ≡ push_if e (queue_of queue.old ring counts.old []) }
 {
     let slots = queue.len();
     if slots > MOST_ENTRIES {
@@ -89,8 +89,8 @@ pub fn start(
     place: Absolute,
     name: u8,
 ) -> Ring
-    ensures { queueOf queue.new result counts.new threads.new
-        ≡ startIf place.0 name (queueOf queue.old ring counts.old threads.old) }
+    ensures { queue_of queue.new result counts.new threads.new
+        ≡ start_if place.0 name (queue_of queue.old ring counts.old threads.old) }
 {
     let i = name as usize;
     if 16 <= i {

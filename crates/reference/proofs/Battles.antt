@@ -5,18 +5,18 @@ use mathlib.Core.Path.{◌≡◌, refl}
 use mathlib.Core.List.{List, [], ◌∷◌, ◌++◌, map}
 use mathlib.Core.Option.{Option, none, some}
 use lib.ListN.{length, replicate}
-use Rattle.cell.specs.Cells.{freshCell}
+use Rattle.cell.specs.Cells.{fresh_cell}
 use Rattle.types.specs.Defaults.{unnamed}
 use Rattle.types.specs.Opcode.{DAT, MOV, DIV, JMZ, SEQ, SPL}
 use Rattle.types.specs.Modifier as modifier
 use Rattle.types.specs.Mode as mode
 use Rattle.machine.specs.Battles.{bytes, datum, word, cell}
 use Rattle.reference.specs.Types.{Instruction}
-use Rattle.reference.specs.Modifiers.{evaluate-a, evaluate-b}
+use Rattle.reference.specs.Modifiers.{evaluate_a, evaluate_b}
 use Rattle.reference.specs.Opcodes.{execute}
 use Rattle.reference.specs.Process.{Entry, ExecuteDat, DivideByZero, push}
-use Rattle.reference.specs.Core.{Core, Answer, Ok, Err, Returned, new, load-warrior, step}
-use Rattle.reference.specs.Same.{word_of, warriorOf}
+use Rattle.reference.specs.Core.{Core, Answer, Ok, Err, Returned, new, load_warrior, step}
+use Rattle.reference.specs.Same.{word_of, warrior_of}
 
 -- the answer, the core, and the offset and thread number of each entry
 record Left : Type 0 where
@@ -24,18 +24,18 @@ record Left : Type 0 where
   instructions : List Instruction
   queue : List (List ℕ)
 
-abbrev leftBy : Returned → Left
-leftBy r =
+abbrev left_by : Returned → Left
+left_by r =
     record {
       answer = r.answer;
       instructions = r.core.instructions;
-      queue = map (λ (e : Entry). e.offset ∷ e.thread ∷ []) r.core.process-queue.queue;
+      queue = map (λ (e : Entry). e.offset ∷ e.thread ∷ []) r.core.process_queue.queue;
     }
 
 -- one step of a core with a body loaded
 abbrev stepped : List ℕ → Option Core → List Left
 stepped body none = []
-stepped body (some c) = leftBy (step (load-warrior (warriorOf [] body 65535) c).core) ∷ []
+stepped body (some c) = left_by (step (load_warrior (warrior_of [] body 65535) c).core) ∷ []
 
 -- a body in a core of 8 cells; the answer, the cells told, and the entries: places and thread numbers
 record Battle : Type 0 where
@@ -46,7 +46,7 @@ record Battle : Type 0 where
 
 -- untold cells are fresh
 abbrev said : Battle → List Left
-said b = record { answer = b.answer; instructions = map word_of (b.told ++ replicate (8 - length b.told) freshCell); queue = b.queue } ∷ []
+said b = record { answer = b.answer; instructions = map word_of (b.told ++ replicate (8 - length b.told) fresh_cell); queue = b.queue } ∷ []
 
 abbrev battles : List Battle
 battles =
@@ -116,5 +116,5 @@ battles =
     ∷ []
 
 the-rust-gives : map (λ (b : Battle). stepped b.body (new 8)) battles ≡ map said battles
-unfolding evaluate-a evaluate-b execute push load-warrior step
+unfolding evaluate_a evaluate_b execute push load_warrior step
 the-rust-gives = refl

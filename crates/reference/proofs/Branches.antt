@@ -15,22 +15,22 @@ use Rattle.types.specs.Modifier.{I}
 use Rattle.machine.specs.Pointers.{less}
 use Rattle.machine.specs.Execution as Execution
 use Rattle.machine.specs.Execution.{Met, some?, branch, skip, stored, equal}
-use Rattle.reference.specs.Types.{instruction-eq}
+use Rattle.reference.specs.Types.{instruction_eq}
 use Rattle.reference.specs.Offset.{offset, add}
-use Rattle.reference.specs.Modifiers.{Ran, run-on-instructions, run-on-fields}
-use Rattle.reference.specs.Opcodes.{sets-if, decrements, unlike, unlike-whole, finished, by-opcode}
-use Rattle.reference.specs.Same.{opcode_of, instructionOf}
+use Rattle.reference.specs.Modifiers.{Ran, run_on_instructions, run_on_fields}
+use Rattle.reference.specs.Opcodes.{sets_if, decrements, unlike, unlike_whole, finished, by_opcode}
+use Rattle.reference.specs.Same.{opcode_of, instruction_of}
 use Rattle.reference.proofs.Offsets.{offset-in, sub-one}
 use Rattle.reference.proofs.Cells.{eq-words}
-use Rattle.reference.proofs.Closures.{Any, captures, start, wholeIf, captures-any, never-stored}
-use Rattle.reference.proofs.Registers.{Registers, live, mets, executor, scene, Does, live_in, run_is, fields-is, to-place, jump-offset, jumps, skip-one, skips, written, positive}
+use Rattle.reference.proofs.Closures.{Any, captures, start, whole_if, captures-any, never-stored}
+use Rattle.reference.proofs.Registers.{Registers, live, mets, executor, scene, Does, live_in, run_is, fields-is, to-place, jump_offset, jumps, skip-one, skips, written, positive}
 
 module _ (its : Registers) where
   -- a test of the pairs that stores nothing
   tests : (t u : ℕ → ℕ → Bool) → ((a b : ℕ) → u a b ≡ t a b) → (to s : Option ℕ)
-      → run-on-fields its.size (executor its) (λ s a b. sets-if to (u a b) s) s ≡ start (cond (not (every (λ x. not (t x.a x.b)) (mets its))) to s) (live its)
+      → run_on_fields its.size (executor its) (λ s a b. sets_if to (u a b) s) s ≡ start (cond (not (every (λ x. not (t x.a x.b)) (mets its))) to s) (live its)
   tests t u h to s =
-      fields-is its (λ s a b. sets-if to (u a b) s) (λ s a b. cond (t a b) to s) (λ a b. none) Any
+      fields-is its (λ s a b. sets_if to (u a b) s) (λ s a b. cond (t a b) to s) (λ a b. none) Any
       (λ s a b x ha hb. (ap (λ (y : Bool). record { captured = cond y to s; returned = none }) (h a b), tt)) s tt
       ∙ ap₂ start (captures-any t to s (mets its)) (never-stored (mets its) (live its))
 
@@ -53,16 +53,16 @@ module _ (its : Registers) where
 
   -- CMP, SEQ, SNE: with the whole register under I
   compares : (to s : Option ℕ)
-      → run-on-instructions its.size (executor its) (unlike to) (some (unlike-whole to)) s ≡ start (cond (equal (scene its)) s to) (live its)
+      → run_on_instructions its.size (executor its) (unlike to) (some (unlike_whole to)) s ≡ start (cond (equal (scene its)) s to) (live its)
   compares to s =
-      run_is its (unlike to) (λ s a b. cond (not (eqb a b)) to s) (λ a b. none) Any (λ s a b x ha hb. (refl, tt)) s tt (some (unlike-whole to))
-      ∙ ap (wholeIf (eqb its.modifier I) (some (unlike-whole to)) (instructionOf its.ra))
+      run_is its (unlike to) (λ s a b. cond (not (eqb a b)) to s) (λ a b. none) Any (λ s a b x ha hb. (refl, tt)) s tt (some (unlike_whole to))
+      ∙ ap (whole_if (eqb its.modifier I) (some (unlike_whole to)) (instruction_of its.ra))
       (ap₂ start (captures-any (λ a b. not (eqb a b)) to s (mets its) ∙ ap (λ (b : Bool). cond (not b) to s) (plainly eqb)) (never-stored (mets its) (live its)))
       ∙ go (eqb its.modifier I) (every (λ x. eqb x.a x.b) (mets its)) (eqb (packed its.ra) (packed (live its)))
       (eq-words its.size its.ra (live its) (omega arith) its.ra-in (live_in its))
     where
-      go : (i m w : Bool) → w ≡ instruction-eq (instructionOf its.ra) (instructionOf (live its))
-          → wholeIf i (some (unlike-whole to)) (instructionOf its.ra) (start (cond (not m) to s) (live its)) ≡ start (cond (m && (not i || w)) s to) (live its)
+      go : (i m w : Bool) → w ≡ instruction_eq (instruction_of its.ra) (instruction_of (live its))
+          → whole_if i (some (unlike_whole to)) (instruction_of its.ra) (start (cond (not m) to s) (live its)) ≡ start (cond (m && (not i || w)) s to) (live its)
       go false true w q = refl
       go false false w q = refl
       go true true w q = ap (λ (b : Bool). start (cond (not b) to s) (live its)) (sym q) ∙ ap (λ (o : Option ℕ). start o (live its)) (turned w to s)
@@ -72,40 +72,40 @@ module _ (its : Registers) where
           either true = refl
           either false = refl
 
-  pub equals : Does its (by-opcode (opcode_of 12) its.size its.pc (executor its)) (skip (scene its) (equal (scene its)))
+  pub equals : Does its (by_opcode (opcode_of 12) its.size its.pc (executor its)) (skip (scene its) (equal (scene its)))
   equals = branches _ (equal (scene its)) (skip-one its) (ahead its.size its.pc 2) (compares none (some (skip-one its))) (skips its)
 
-  pub differs : Does its (by-opcode (opcode_of 13) its.size its.pc (executor its)) (skip (scene its) (not (equal (scene its))))
+  pub differs : Does its (by_opcode (opcode_of 13) its.size its.pc (executor its)) (skip (scene its) (not (equal (scene its))))
   differs =
       branches _ (not (equal (scene its))) (skip-one its) (ahead its.size its.pc 2)
       (compares (some (skip-one its)) none ∙ ap (λ (o : Option ℕ). start o (live its)) (sym (turned (equal (scene its)) (some (skip-one its)) none))) (skips its)
 
   -- DJN
-  pub counts : Does its (by-opcode (opcode_of 10) its.size its.pc (executor its)) (Execution.counts (scene its))
+  pub counts : Does its (by_opcode (opcode_of 10) its.size its.pc (executor its)) (Execution.counts (scene its))
   counts =
       record {
         core = ap (written its) ran;
         next = (
           _,
           refl,
-          to-place its (some? (λ x. not (eqb (less its.size x.b) 0)) (scene its)) (jump-offset its) its.jump _ (jumps its)
-              (ap (λ (r : Ran (Option ℕ)). r.captured) ran ∙ captures-any (λ a b. not (eqb (less its.size b) 0)) (some (jump-offset its)) none (mets its)),
+          to-place its (some? (λ x. not (eqb (less its.size x.b) 0)) (scene its)) (jump_offset its) its.jump _ (jumps its)
+              (ap (λ (r : Ran (Option ℕ)). r.captured) ran ∙ captures-any (λ a b. not (eqb (less its.size b) 0)) (some (jump_offset its)) none (mets its)),
         );
       }
     where
       change : Option ℕ → ℕ → ℕ → Option ℕ
-      change s a b = cond (not (eqb (less its.size b) 0)) (some (jump-offset its)) s
+      change s a b = cond (not (eqb (less its.size b) 0)) (some (jump_offset its)) s
 
       called : (s : Option ℕ) (a b : ℕ) → b < its.size
-          → decrements its.size (offset its.size (pos 0)) (jump-offset its) s a b ≡ record { captured = change s a b; returned = Execution.lowered its.size a b }
+          → decrements its.size (offset its.size (pos 0)) (jump_offset its) s a b ≡ record { captured = change s a b; returned = Execution.lowered its.size a b }
       called s a b h =
-          ap₂ (λ (d z : ℕ). record { captured = cond (not (eqb d z)) (some (jump-offset its)) s; returned = some d })
+          ap₂ (λ (d z : ℕ). record { captured = cond (not (eqb d z)) (some (jump_offset its)) s; returned = some d })
           (sub-one its.size (positive its) its.small b h) zero_is
 
-      ran : run-on-fields its.size (executor its) (decrements its.size (offset its.size (pos 0)) (jump-offset its)) none
+      ran : run_on_fields its.size (executor its) (decrements its.size (offset its.size (pos 0)) (jump_offset its)) none
           ≡ start (captures change none (mets its)) (stored (Execution.lowered its.size) (mets its) (live its))
       ran =
-          fields-is its (decrements its.size (offset its.size (pos 0)) (jump-offset its)) change (Execution.lowered its.size) Any
+          fields-is its (decrements its.size (offset its.size (pos 0)) (jump_offset its)) change (Execution.lowered its.size) Any
           (λ s a b x ha hb. (called s a b hb, tt)) none tt
 
   not-below : (a b : ℕ) → leb b a ≡ not (ltb a b)
@@ -116,17 +116,17 @@ module _ (its : Registers) where
       go false q = sym (ap not (lt-ltb a b (leb-false b a q)))
 
   -- JMZ, JMN, SLT
-  pub zeroes : Does its (by-opcode (opcode_of 8) its.size its.pc (executor its)) (branch (scene its) (some? (λ x. eqb x.b 0) (scene its)) its.jump)
+  pub zeroes : Does its (by_opcode (opcode_of 8) its.size its.pc (executor its)) (branch (scene its) (some? (λ x. eqb x.b 0) (scene its)) its.jump)
   zeroes =
-      branches _ (some? (λ x. eqb x.b 0) (scene its)) (jump-offset its) its.jump
-      (tests (λ a b. eqb b 0) (λ a b. eqb b (offset its.size (pos 0))) (λ a b. ap (eqb b) zero_is) (some (jump-offset its)) none) (jumps its)
+      branches _ (some? (λ x. eqb x.b 0) (scene its)) (jump_offset its) its.jump
+      (tests (λ a b. eqb b 0) (λ a b. eqb b (offset its.size (pos 0))) (λ a b. ap (eqb b) zero_is) (some (jump_offset its)) none) (jumps its)
 
-  pub nonzeroes : Does its (by-opcode (opcode_of 9) its.size its.pc (executor its)) (branch (scene its) (some? (λ x. not (eqb x.b 0)) (scene its)) its.jump)
+  pub nonzeroes : Does its (by_opcode (opcode_of 9) its.size its.pc (executor its)) (branch (scene its) (some? (λ x. not (eqb x.b 0)) (scene its)) its.jump)
   nonzeroes =
-      branches _ (some? (λ x. not (eqb x.b 0)) (scene its)) (jump-offset its) its.jump
-      (tests (λ a b. not (eqb b 0)) (λ a b. not (eqb b (offset its.size (pos 0)))) (λ a b. ap (λ (z : ℕ). not (eqb b z)) zero_is) (some (jump-offset its)) none) (jumps its)
+      branches _ (some? (λ x. not (eqb x.b 0)) (scene its)) (jump_offset its) its.jump
+      (tests (λ a b. not (eqb b 0)) (λ a b. not (eqb b (offset its.size (pos 0)))) (λ a b. ap (λ (z : ℕ). not (eqb b z)) zero_is) (some (jump_offset its)) none) (jumps its)
 
-  pub lesser : Does its (by-opcode (opcode_of 14) its.size its.pc (executor its)) (skip (scene its) (every (λ x. ltb x.a x.b) (mets its)))
+  pub lesser : Does its (by_opcode (opcode_of 14) its.size its.pc (executor its)) (skip (scene its) (every (λ x. ltb x.a x.b) (mets its)))
   lesser =
       branches _ (every (λ x. ltb x.a x.b) (mets its)) (skip-one its) (ahead its.size its.pc 2)
       (tests (λ a b. not (ltb a b)) (λ a b. leb b a) not-below none (some (skip-one its))

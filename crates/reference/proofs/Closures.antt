@@ -15,8 +15,8 @@ use Rattle.types.specs.Modifier.{I}
 use Rattle.machine.specs.Execution.{Met, is_none, put, stored}
 use Rattle.machine.proofs.Execution.{row}
 use Rattle.reference.specs.Types.{Instruction}
-use Rattle.reference.specs.Modifiers.{Called, Ran, put_a, put_b, to-a, to-b, whole, by-modifier}
-use Rattle.reference.specs.Same.{modifierOf, instructionOf}
+use Rattle.reference.specs.Modifiers.{Called, Ran, put_a, put_b, to_a, to_b, whole, by_modifier}
+use Rattle.reference.specs.Same.{modifier_of, instruction_of}
 
 -- what is captured once the closure was called for each pair
 abbrev pub captures : {S : Type 0} → (S → ℕ → ℕ → S) → S → List Met → S
@@ -24,18 +24,18 @@ captures change s [] = s
 captures change s (x ∷ xs) = captures change (change s x.a x.b) xs
 
 abbrev pub start : {S : Type 0} → S → Cell → Ran S
-start s c = record { captured = s; b-target = instructionOf c }
+start s c = record { captured = s; b_target = instruction_of c }
 
 -- instruction_op is called under I alone
-abbrev pub wholeIf : {S : Type 0} → Bool → Option (S → Instruction → Instruction → Called S Instruction) → Instruction → Ran S → Ran S
-wholeIf true instruction-op a-value r = whole instruction-op a-value r
-wholeIf false instruction-op a-value r = r
+abbrev pub whole_if : {S : Type 0} → Bool → Option (S → Instruction → Instruction → Called S Instruction) → Instruction → Ran S → Ran S
+whole_if true instruction_op a_value r = whole instruction_op a_value r
+whole_if false instruction_op a_value r = r
 
-put-a-is : (o : Option ℕ) (c : Cell) → put_a o (instructionOf c) ≡ instructionOf (put o A c)
+put-a-is : (o : Option ℕ) (c : Cell) → put_a o (instruction_of c) ≡ instruction_of (put o A c)
 put-a-is none c = refl
 put-a-is (some x) c = refl
 
-put-b-is : (o : Option ℕ) (c : Cell) → put_b o (instructionOf c) ≡ instructionOf (put o B c)
+put-b-is : (o : Option ℕ) (c : Cell) → put_b o (instruction_of c) ≡ instruction_of (put o B c)
 put-b-is none c = refl
 put-b-is (some x) c = refl
 
@@ -46,27 +46,27 @@ Any s = Unit {0}
 -- a closure that, as long as what it has captured is such, changes it so and returns that value, at offsets below m
 module _ {S : Type 0} (m : ℕ) (op : S → ℕ → ℕ → Called S ℕ) (change : S → ℕ → ℕ → S) (val : ℕ → ℕ → Option ℕ) (Such : S → Type 0)
     (called : (s : S) (a b : ℕ) → Such s → a < m → b < m → (op s a b ≡ record { captured = change s a b; returned = val a b }) × Such (change s a b)) where
-  to-a-is : (s : S) (c : Cell) (a b : ℕ) → Such s → a < m → b < m → to-a op a b (start s c) ≡ start (change s a b) (put (val a b) A c)
+  to-a-is : (s : S) (c : Cell) (a b : ℕ) → Such s → a < m → b < m → to_a op a b (start s c) ≡ start (change s a b) (put (val a b) A c)
   to-a-is s c a b such ha hb =
-      ap (λ (x : Called S ℕ). record { captured = x.captured; b-target = put_a x.returned (instructionOf c) }) (called s a b such ha hb).0
-      ∙ ap (λ (i : Instruction). record { captured = change s a b; b-target = i }) (put-a-is (val a b) c)
+      ap (λ (x : Called S ℕ). record { captured = x.captured; b_target = put_a x.returned (instruction_of c) }) (called s a b such ha hb).0
+      ∙ ap (λ (i : Instruction). record { captured = change s a b; b_target = i }) (put-a-is (val a b) c)
 
-  to-b-is : (s : S) (c : Cell) (a b : ℕ) → Such s → a < m → b < m → to-b op a b (start s c) ≡ start (change s a b) (put (val a b) B c)
+  to-b-is : (s : S) (c : Cell) (a b : ℕ) → Such s → a < m → b < m → to_b op a b (start s c) ≡ start (change s a b) (put (val a b) B c)
   to-b-is s c a b such ha hb =
-      ap (λ (x : Called S ℕ). record { captured = x.captured; b-target = put_b x.returned (instructionOf c) }) (called s a b such ha hb).0
-      ∙ ap (λ (i : Instruction). record { captured = change s a b; b-target = i }) (put-b-is (val a b) c)
+      ap (λ (x : Called S ℕ). record { captured = x.captured; b_target = put_b x.returned (instruction_of c) }) (called s a b such ha hb).0
+      ∙ ap (λ (i : Instruction). record { captured = change s a b; b_target = i }) (put-b-is (val a b) c)
 
   module _ (ra rb live : Cell) (aa : ra.a.0 < m) (ab : ra.b.0 < m) (ba : rb.a.0 < m) (bb : rb.b.0 < m)
-      (instruction-op : Option (S → Instruction → Instruction → Called S Instruction)) (a-value : Instruction) (s : S) (such : Such s) where
+      (instruction_op : Option (S → Instruction → Instruction → Called S Instruction)) (a_value : Instruction) (s : S) (such : Such s) where
     -- to the A field first, then to the B field
     twice : (x y u v : ℕ) → x < m → y < m → u < m → v < m
-        → to-b op u v (to-a op x y (start s live)) ≡ start (change (change s x y) u v) (put (val u v) B (put (val x y) A live))
+        → to_b op u v (to_a op x y (start s live)) ≡ start (change (change s x y) u v) (put (val u v) B (put (val x y) A live))
     twice x y u v hx hy hu hv =
-        ap (to-b op u v) (to-a-is s live x y such hx hy) ∙ to-b-is (change s x y) (put (val x y) A live) u v (called s x y such hx hy).1 hu hv
+        ap (to_b op u v) (to-a-is s live x y such hx hy) ∙ to-b-is (change s x y) (put (val x y) A live) u v (called s x y such hx hy).1 hu hv
 
     pub ran-is : (k : ℕ) → k < 7
-        → by-modifier (modifierOf k) op instruction-op ra.a.0 ra.b.0 rb.a.0 rb.b.0 a-value (start s live)
-        ≡ wholeIf (eqb k I) instruction-op a-value (start (captures change s (row k ra rb)) (stored val (row k ra rb) live))
+        → by_modifier (modifier_of k) op instruction_op ra.a.0 ra.b.0 rb.a.0 rb.b.0 a_value (start s live)
+        ≡ whole_if (eqb k I) instruction_op a_value (start (captures change s (row k ra rb)) (stored val (row k ra rb) live))
     ran-is =
         below _ 7
         (to-a-is s live _ _ such aa ba
@@ -75,7 +75,7 @@ module _ {S : Type 0} (m : ℕ) (op : S → ℕ → ℕ → Called S ℕ) (chang
         and to-a-is s live _ _ such ab ba
         and twice _ _ _ _ aa ba ab bb
         and twice _ _ _ _ ab ba aa bb
-        and ap (whole instruction-op a-value) (twice _ _ _ _ aa ba ab bb)
+        and ap (whole instruction_op a_value) (twice _ _ _ _ aa ba ab bb)
         and tt)
 
 -- what a test leaves captured

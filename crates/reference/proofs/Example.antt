@@ -5,22 +5,22 @@ use mathlib.Core.Path.{◌≡◌, refl}
 use mathlib.Core.List.{List, [], ◌∷◌, ◌++◌, map}
 use native.Mathlib.Omega.{arith}
 use lib.ListN.{replicate}
-use Rattle.cell.specs.Cells.{soundWord}
+use Rattle.cell.specs.Cells.{sound_word}
 use Rattle.types.specs.Defaults.{unnamed}
 use Rattle.types.specs.Opcode.{DJN, SPL, NOP, LDP}
 use Rattle.types.specs.Modifier as modifier
 use Rattle.types.specs.Mode as mode
-use Rattle.program.specs.Program.{lawful, lowestFault, cells}
+use Rattle.program.specs.Program.{lawful, lowest_fault, cells}
 use Rattle.machine.specs.declared.Ceiling.TheVariants.{Steps}
-use Rattle.machine.specs.State.{ofSize, Machine}
+use Rattle.machine.specs.State.{of_size, Machine}
 use Rattle.machine.specs.Names.{register, numbered}
 use Rattle.machine.specs.Queue.{entries, pop, push, started}
-use Rattle.machine.specs.Soundness.{soundHeader, soundEntry}
+use Rattle.machine.specs.Soundness.{sound_header, sound_entry}
 use Rattle.machine.specs.Fresh.{fresh}
 use Rattle.machine.specs.Load.{loaded, load}
 use Rattle.machine.specs.Pointers.{operand}
 use Rattle.machine.specs.Execution.{effect_of}
-use Rattle.machine.specs.Step.{effect, coreAfter, stepWritten, counted, executed, step}
+use Rattle.machine.specs.Step.{effect, core_after, step_written, counted, executed, step}
 use Rattle.machine.specs.Run.{run}
 use Rattle.machine.specs.Battles.{bytes, datum}
 use Rattle.account.specs.Calls.{Call, Load, Step, Run, outcome}
@@ -30,7 +30,7 @@ use Rattle.reference.proofs.Refinement.{refinement}
 
 -- M 8, 4 queue entries
 abbrev start : Machine
-start = (fresh (ofSize 8) (replicate 8 7) (replicate 4 9)).machine
+start = (fresh (of_size 8) (replicate 8 7) (replicate 4 9)).machine
 
 -- SPL $2,$0, DAT $0,$0, DJN.B $-1,$4 unnamed; a warrior too long; a name of 33 bytes, answered 5; three steps, a run to the end, and a step on the empty queue;
 -- NOP $0,$0, LDP.B $0,$0, a run that is answered 10 after a step, and a step that is answered 10
@@ -55,19 +55,19 @@ told [] m = []
 told (x ∷ xs) m = (outcome x m).number ∷ (outcome x m).steps ∷ told xs (outcome x m).machine
 
 answers : told calls start ≡ 0 ∷ 0 ∷ 3 ∷ 0 ∷ 5 ∷ 0 ∷ 0 ∷ 1 ∷ 0 ∷ 1 ∷ 0 ∷ 1 ∷ 11 ∷ 1 ∷ 7 ∷ 0 ∷ 0 ∷ 0 ∷ 10 ∷ 1 ∷ 10 ∷ 0 ∷ []
-unfolding soundWord lawful lowestFault cells register numbered entries pop push started soundHeader soundEntry fresh loaded load operand effect_of effect coreAfter stepWritten counted executed step run
+unfolding sound_word lawful lowest_fault cells register numbered entries pop push started sound_header sound_entry fresh loaded load operand effect_of effect core_after step_written counted executed step run
 answers = refl
 
 in-domain : Domain calls start
-unfolding soundWord lawful lowestFault cells register numbered entries pop push started soundHeader soundEntry fresh loaded load operand effect_of effect coreAfter stepWritten counted executed step run
+unfolding sound_word lawful lowest_fault cells register numbered entries pop push started sound_header sound_entry fresh loaded load operand effect_of effect core_after step_written counted executed step run
 in-domain = (
   ((refl, omega arith), refl),
   (((refl, omega arith), refl), (refl, ((tt, refl), ((tt, refl), ((tt, refl), ((tt, refl), ((tt, refl), (((refl, omega arith), refl), (refl, (refl, tt)))))))))),
 )
 
-made : (fresh (ofSize 8) (replicate 8 7) (replicate 4 9)).number ≡ 0
+made : (fresh (of_size 8) (replicate 8 7) (replicate 4 9)).number ≡ 0
 unfolding fresh
 made = refl
 
-agrees : Agrees calls start (refinement (ofSize 8) (replicate 8 7) (replicate 4 9) (record { read = refl; write = refl }) made).0
-agrees = (refinement (ofSize 8) (replicate 8 7) (replicate 4 9) (record { read = refl; write = refl }) made).2 (map One calls) in-domain
+agrees : Agrees calls start (refinement (of_size 8) (replicate 8 7) (replicate 4 9) (record { read = refl; write = refl }) made).0
+agrees = (refinement (of_size 8) (replicate 8 7) (replicate 4 9) (record { read = refl; write = refl }) made).2 (map One calls) in-domain

@@ -11,7 +11,7 @@ use borrow.Author.Tests.{ltb-true, ltb-false, lt-ltb, le-ltb}
 use Rattle.offset.specs.Offset.{euclid, ahead}
 use Rattle.offset.proofs.Offsets.{euclid-pos, euclid-neg, ahead-lt}
 use Rattle.encoding.specs.Bytes.{signed}
-use Rattle.reference.specs.Offset.{offset, i32, add, sub, add-i32, sub-i32}
+use Rattle.reference.specs.Offset.{offset, i32, add, sub, add_i32, sub_i32}
 
 word_size : 2 ^ 32 ≡ 0 → ⊥
 word_size e = omega arith
@@ -74,7 +74,7 @@ module _ (m : ℕ) (some : 0 < m) (small : m ≤ 46341) where
       ap (λ (z : ℤ). euclid (i32 z) m) (sub_cases x y) ∙ ap (λ (z : ℤ). euclid z m) (fit-sub x y (omega arith) (omega arith)) ∙ euclid-sub x y l
 
   -- an offset and an i32
-  pub add-num : (x n : ℕ) → x < m → add-i32 m x (pos n) ≡ ahead m x n
+  pub add-num : (x n : ℕ) → x < m → add_i32 m x (pos n) ≡ ahead m x n
   add-num x n h = ap (add m x) (offset-pos n) ∙ add_is x (n % m) h (mod-lt n some) ∙ add-mod-mod x n m
 
   -- at M = 1, too, where 1 is 0
@@ -88,7 +88,7 @@ module _ (m : ℕ) (some : 0 < m) (small : m ≤ 46341) where
           let one : m ≡ 1 = omega arith in
           subst (λ (k : ℕ). (k - 1 % k) % k ≡ (k - 1) % k) (sym one) refl
 
-  pub sub-one : (x : ℕ) → x < m → sub-i32 m x (pos 1) ≡ ahead m x (m - 1)
+  pub sub-one : (x : ℕ) → x < m → sub_i32 m x (pos 1) ≡ ahead m x (m - 1)
   sub-one x h =
       ap (sub m x) (offset-pos 1)
       ∙ sub_is x (1 % m) h (let l : 1 % m < m = mod-lt 1 some in omega arith)
@@ -97,25 +97,25 @@ module _ (m : ℕ) (some : 0 < m) (small : m ≤ 46341) where
       ∙ add-mod-mod x (m - 1) m
 
   -- the decrement and the increment of apply_pointer
-  pub decremented : (x : ℕ) → sub-i32 m (offset m (pos x)) (pos 1) ≡ ahead m x (m - 1)
-  decremented x = ap (λ (k : ℕ). sub-i32 m k (pos 1)) (offset-pos x) ∙ sub-one (x % m) (mod-lt x some) ∙ mod-add-mod x m (m - 1)
+  pub decremented : (x : ℕ) → sub_i32 m (offset m (pos x)) (pos 1) ≡ ahead m x (m - 1)
+  decremented x = ap (λ (k : ℕ). sub_i32 m k (pos 1)) (offset-pos x) ∙ sub-one (x % m) (mod-lt x some) ∙ mod-add-mod x m (m - 1)
 
-  pub incremented : (x : ℕ) → add-i32 m (offset m (pos x)) (pos 1) ≡ ahead m x 1
-  incremented x = ap (λ (k : ℕ). add-i32 m k (pos 1)) (offset-pos x) ∙ add-num (x % m) 1 (mod-lt x some) ∙ mod-add-mod x m 1
+  pub incremented : (x : ℕ) → add_i32 m (offset m (pos x)) (pos 1) ≡ ahead m x 1
+  incremented x = ap (λ (k : ℕ). add_i32 m k (pos 1)) (offset-pos x) ∙ add-num (x % m) 1 (mod-lt x some) ∙ mod-add-mod x m 1
 
   -- PC + (n + x), and PC + (n + x - 1)
-  pub through-is : (p n x : ℕ) → p < m → n < m → x < m → add-i32 m p (i32 (pos n +ℤ pos x)) ≡ ahead m (ahead m p n) x
+  pub through-is : (p n x : ℕ) → p < m → n < m → x < m → add_i32 m p (i32 (pos n +ℤ pos x)) ≡ ahead m (ahead m p n) x
   through-is p n x hp hn hx =
-      ap (add-i32 m p) (fit-pos (n + x) (sum_fits n x hn hx))
+      ap (add_i32 m p) (fit-pos (n + x) (sum_fits n x hn hx))
       ∙ add-num p (n + x) hp
       ∙ ap (λ (k : ℕ). k % m) (let h : p + (n + x) ≡ p + n + x = omega arith in h)
       ∙ sym (mod-add-mod (p + n) m x)
 
   pub before-is : (p n x : ℕ) → p < m → n < m → x < m
-      → add-i32 m p (i32 (i32 (pos n +ℤ pos x) -ℤ pos 1)) ≡ ahead m (ahead m p n) (ahead m x (m - 1))
+      → add_i32 m p (i32 (i32 (pos n +ℤ pos x) -ℤ pos 1)) ≡ ahead m (ahead m p n) (ahead m x (m - 1))
   before-is p n x hp hn hx =
-      ap (λ (z : ℤ). add-i32 m p (i32 (z -ℤ pos 1))) (fit-pos (n + x) (sum_fits n x hn hx))
-      ∙ ap (add-i32 m p) (fit-sub (n + x) 1 (sum_fits n x hn hx) (omega arith))
+      ap (λ (z : ℤ). add_i32 m p (i32 (z -ℤ pos 1))) (fit-pos (n + x) (sum_fits n x hn hx))
+      ∙ ap (add_i32 m p) (fit-sub (n + x) 1 (sum_fits n x hn hx) (omega arith))
       ∙ ap (add m p) (euclid-sub (n + x) 1 (omega arith))
       ∙ add_is p (ahead m (n + x) (m - 1)) hp (ahead-lt m (n + x) (m - 1) some)
       ∙ add-mod-mod p (n + x + (m - 1)) m

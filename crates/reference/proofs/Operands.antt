@@ -16,33 +16,33 @@ use Rattle.cell.specs.Cells.{unpacked, number, with_number}
 use Rattle.offset.proofs.Offsets.{ahead-lt}
 use Rattle.cell.proofs.Words.{word-range}
 use Rattle.machine.specs.declared.Rules.{Rules}
-use Rattle.machine.specs.Soundness.{validSize}
-use Rattle.machine.specs.Pointers.{Reach, here, there, through, reaches, Shift, keeps, lowers, raises, shifts, field_of, less, more, changed, before, after, siteAt, Operand, operand}
-use Rattle.machine.specs.Whole.{used, pointerOf, former, SameOperand, Unlimited}
+use Rattle.machine.specs.Soundness.{valid_size}
+use Rattle.machine.specs.Pointers.{Reach, here, there, through, reaches, Shift, keeps, lowers, raises, shifts, field_of, less, more, changed, before, after, site_at, Operand, operand}
+use Rattle.machine.specs.Whole.{used, pointer_of, former, SameOperand, Unlimited}
 use Rattle.machine.proofs.Pointers.{changed-same, changed-other, length_before, SoundCore, fields_at, number_lt}
 use Rattle.machine.proofs.Whole.{whole-operand}
 use Rattle.reference.specs.Types as Rust
 use Rattle.reference.specs.Types.{AddressMode, Immediate, Direct, IndirectA, IndirectB, PreDecIndirectA, PreDecIndirectB, PostIncIndirectA, PostIncIndirectB, Instruction}
-use Rattle.reference.specs.Offset.{offset, add-i32}
-use Rattle.reference.specs.Address.{get-offset, resolve-pointer, Pre, Post, applied, apply-pointer}
+use Rattle.reference.specs.Offset.{offset, add_i32}
+use Rattle.reference.specs.Address.{get_offset, resolve_pointer, Pre, Post, applied, apply_pointer}
 use Rattle.reference.specs.Modifiers.{Evaluated}
-use Rattle.reference.specs.Same.{mode_of, instructionOf, word_of}
+use Rattle.reference.specs.Same.{mode_of, instruction_of, word_of}
 use Rattle.reference.proofs.Cells.{get-word}
-use Rattle.reference.proofs.Pointers.{field_at, reachOf, shift_of, reach-is, shift_is, same_set, pointer_is, applied-is}
+use Rattle.reference.proofs.Pointers.{field_at, reach_of, shift_of, reach-is, shift_is, same_set, pointer_is, applied-is}
 
 -- the codes of a cell
 pub record Codes (c d : Cell) : Type 0 where
   pub opcode : c.opcode ≡ d.opcode
   pub modifier : c.modifier ≡ d.modifier
-  pub a-mode : c.a_mode ≡ d.a_mode
-  pub b-mode : c.b_mode ≡ d.b_mode
+  pub a_mode : c.a_mode ≡ d.a_mode
+  pub b_mode : c.b_mode ≡ d.b_mode
 
 same_codes : (c : Cell) → Codes c c
-same_codes c = record { opcode = refl; modifier = refl; a-mode = refl; b-mode = refl }
+same_codes c = record { opcode = refl; modifier = refl; a_mode = refl; b_mode = refl }
 
 with-codes : (f : Field) (x : ℕ) (c : Cell) → Codes (with_number f x c) c
-with-codes A x c = record { opcode = refl; modifier = refl; a-mode = refl; b-mode = refl }
-with-codes B x c = record { opcode = refl; modifier = refl; a-mode = refl; b-mode = refl }
+with-codes A x c = record { opcode = refl; modifier = refl; a_mode = refl; b_mode = refl }
+with-codes B x c = record { opcode = refl; modifier = refl; a_mode = refl; b_mode = refl }
 
 changed-codes : (core : List ℕ) (i : ℕ) (f : Field) (x : ℕ) → x < 65536 → i < length core → (j : ℕ)
     → Codes (unpacked (get_or (changed core i f x) j 0)) (unpacked (get_or core j 0))
@@ -54,50 +54,50 @@ changed-codes core i f x hx hi j = go (eqb j i) refl
 
 -- which operand: its field and its mode
 abbrev field : Field → Instruction → Rust.Field
-field A i = i.a-field
-field B i = i.b-field
+field A i = i.a_field
+field B i = i.b_field
 
 abbrev pub mode : Field → Cell → ℕ
 mode A c = c.a_mode
 mode B c = c.b_mode
 
-field_is : (s : Field) (c : Cell) → field s (instructionOf c) ≡ field_at (mode_of (mode s c)) (number s c)
+field_is : (s : Field) (c : Cell) → field s (instruction_of c) ≡ field_at (mode_of (mode s c)) (number s c)
 field_is A c = refl
 field_is B c = refl
 
 mode-codes : (s : Field) {c d : Cell} → Codes c d → mode s c ≡ mode s d
-mode-codes A h = h.a-mode
-mode-codes B h = h.b-mode
+mode-codes A h = h.a_mode
+mode-codes B h = h.b_mode
 
 mode-in : (s : Field) (w : ℕ) → mode s (unpacked w) < 8
-mode-in A w = (word-range w).a-mode
-mode-in B w = (word-range w).b-mode
+mode-in A w = (word-range w).a_mode
+mode-in B w = (word-range w).b_mode
 
 -- the Rust's evaluation; the field is read from the core each time
 abbrev pub evaluate : Field → ℕ → List Instruction → ℕ → Evaluated
 evaluate s m core pc =
-    let ptr = resolve-pointer m core pc (field s (get-offset core pc)) in
-    let lowered = apply-pointer m core pc (field s (get-offset core pc)) Pre in
-    record { core = apply-pointer m lowered pc (field s (get-offset lowered pc)) Post; ptr = ptr; value = get-offset lowered ptr }
+    let ptr = resolve_pointer m core pc (field s (get_offset core pc)) in
+    let lowered = apply_pointer m core pc (field s (get_offset core pc)) Pre in
+    record { core = apply_pointer m lowered pc (field s (get_offset lowered pc)) Post; ptr = ptr; value = get_offset lowered ptr }
 
 -- after a decrement there is no increment
-post-kept : (m : ℕ) (core : List Instruction) (pc : ℕ) (f : Rust.Field) (mode : AddressMode) → f.address-mode ≡ mode → shift_of mode ≡ lowers
-    → apply-pointer m core pc f Post ≡ core
+post-kept : (m : ℕ) (core : List Instruction) (pc : ℕ) (f : Rust.Field) (mode : AddressMode) → f.address_mode ≡ mode → shift_of mode ≡ lowers
+    → apply_pointer m core pc f Post ≡ core
 post-kept m core pc f mode e t =
-    ap (λ (x : AddressMode). set core l (applied m Post x (offset m i.a-field.value) (offset m i.b-field.value) i)) e ∙ go mode t
+    ap (λ (x : AddressMode). set core l (applied m Post x (offset m i.a_field.value) (offset m i.b_field.value) i)) e ∙ go mode t
   where
     l : ℕ
-    l = add-i32 m pc f.value
+    l = add_i32 m pc f.value
 
     i : Instruction
-    i = get-offset core l
+    i = get_offset core l
 
     Lowers : Shift → Type 0
     Lowers keeps = ⊥
     Lowers lowers = Unit {0}
     Lowers raises = ⊥
 
-    go : (mode : AddressMode) → shift_of mode ≡ lowers → set core l (applied m Post mode (offset m i.a-field.value) (offset m i.b-field.value) i) ≡ core
+    go : (mode : AddressMode) → shift_of mode ≡ lowers → set core l (applied m Post mode (offset m i.a_field.value) (offset m i.b_field.value) i) ≡ core
     go Immediate t = same_set core l
     go Direct t = same_set core l
     go IndirectA t = same_set core l
@@ -109,17 +109,17 @@ post-kept m core pc f mode e t =
 
 -- our operand as the Rust has it
 abbrev pub seen : Operand → Evaluated
-seen o = record { core = map word_of o.core; ptr = o.read; value = instructionOf o.register }
+seen o = record { core = map word_of o.core; ptr = o.read; value = instruction_of o.register }
 
 module _ (rules : Rules) (whole : Unlimited rules) (small : rules.size ≤ 46341) (core : List ℕ) (sound : SoundCore rules.size core) where
   abbrev size : ℕ
   size = rules.size
 
   -- 01's operand is ours
-  same : 0 < size → (pc k n : ℕ) → SameOperand (operand (siteAt rules pc) core k n) (former (siteAt rules pc) core k n)
+  same : 0 < size → (pc k n : ℕ) → SameOperand (operand (site_at rules pc) core k n) (former (site_at rules pc) core k n)
   same some pc k n =
-      let valid : validSize size ≡ true = rw (le-leb 1 size some, le-leb size 46341 small) in
-      whole-operand (siteAt rules pc) core k n whole valid sound.length
+      let valid : valid_size size ≡ true = rw (le-leb 1 size some, le-leb size 46341 small) in
+      whole-operand (site_at rules pc) core k n whole valid sound.length
 
   fits : 0 < size → (x : ℕ) → x % size < 65536
   fits some x = let h : x % size < size = mod-lt x some in omega arith
@@ -139,12 +139,12 @@ module _ (rules : Rules) (whole : Unlimited rules) (small : rules.size ≤ 46341
     raised shift = after shift size (lowered shift) location (field_of reach) held
 
     abbrev pointer : Shift → ℕ
-    pointer shift = pointerOf reach size pc location (used shift size held)
+    pointer shift = pointer_of reach size pc location (used shift size held)
 
     pointer-lt : (shift : Shift) → pc < size → pointer shift < size
     pointer-lt shift = go reach (used shift size held)
       where
-        go : (r : Reach) (x : ℕ) → pc < size → pointerOf r size pc location x < size
+        go : (r : Reach) (x : ℕ) → pc < size → pointer_of r size pc location x < size
         go here x h = h
         go there x h = ahead-lt size pc n (omega arith)
         go (through f) x h = ahead-lt size location x (omega arith)
@@ -166,11 +166,11 @@ module _ (rules : Rules) (whole : Unlimited rules) (small : rules.size ≤ 46341
       raised-codes lowers j = changed-here (less size held) (fits some _) j
       raised-codes raises j = changed-here (more size held) (fits some _) j
 
-  former-codes : 0 < size → (pc k n j : ℕ) → Codes (unpacked (get_or (former (siteAt rules pc) core k n).core j 0)) (unpacked (get_or core j 0))
+  former-codes : 0 < size → (pc k n j : ℕ) → Codes (unpacked (get_or (former (site_at rules pc) core k n).core j 0)) (unpacked (get_or core j 0))
   unfolding former
   former-codes some pc k n j = raised-codes pc n (get_or reaches k here) some (get_or shifts k keeps) j
 
-  pub operand-codes : 0 < size → (pc k n j : ℕ) → Codes (unpacked (get_or (operand (siteAt rules pc) core k n).core j 0)) (unpacked (get_or core j 0))
+  pub operand-codes : 0 < size → (pc k n j : ℕ) → Codes (unpacked (get_or (operand (site_at rules pc) core k n).core j 0)) (unpacked (get_or core j 0))
   operand-codes some pc k n j = rw (same some pc k n).core (former-codes some pc k n j)
 
   module _ (s : Field) (pc : ℕ) (pc-in : pc < size) where
@@ -188,45 +188,45 @@ module _ (rules : Rules) (whole : Unlimited rules) (small : rules.size ≤ 46341
 
     -- after the decrement, or without one
     abbrev then : AddressMode → List ℕ
-    then m = lowered pc n (reachOf m) (shift_of m)
+    then m = lowered pc n (reach_of m) (shift_of m)
 
     then-long : (m : AddressMode) → length (then m) ≡ size
-    then-long m = length_before (shift_of m) size core (ahead size pc n) (field_of (reachOf m)) _ ∙ sound.length
+    then-long m = length_before (shift_of m) size core (ahead size pc n) (field_of (reach_of m)) _ ∙ sound.length
 
     module _ (m : AddressMode) (e : mode_of (mode s c) ≡ m) where
-      field-read : field s (get-offset (map word_of core) pc) ≡ field_at m n
+      field-read : field s (get_offset (map word_of core) pc) ≡ field_at m n
       field-read =
           ap (field s) (get-word core pc (rw sound.length pc-in)) ∙ field_is s c ∙ ap (λ (x : AddressMode). field_at x n) e
 
       -- no decrement: the field is as it was
-      plain : apply-pointer size (map word_of core) pc (field s (get-offset (map word_of core) pc)) Post
-          ≡ map word_of (after (shift_of m) size core (ahead size pc n) (field_of (reachOf m)) (held pc n (reachOf m)))
+      plain : apply_pointer size (map word_of core) pc (field s (get_offset (map word_of core) pc)) Post
+          ≡ map word_of (after (shift_of m) size core (ahead size pc n) (field_of (reach_of m)) (held pc n (reach_of m)))
       plain =
-          ap (λ (f : Rust.Field). apply-pointer size (map word_of core) pc f Post) field-read
+          ap (λ (f : Rust.Field). apply_pointer size (map word_of core) pc f Post) field-read
           ∙ applied-is size small core sound pc n pc-in n-in Post m
 
       -- a decrement: the mode is as it was
-      lowered-once : shift_of m ≡ lowers → apply-pointer size (map word_of (then m)) pc (field s (get-offset (map word_of (then m)) pc)) Post ≡ map word_of (then m)
+      lowered-once : shift_of m ≡ lowers → apply_pointer size (map word_of (then m)) pc (field s (get_offset (map word_of (then m)) pc)) Post ≡ map word_of (then m)
       lowered-once t =
           post-kept size (map word_of (then m)) pc _ m
-          (ap (λ (i : Instruction). (field s i).address-mode) (get-word (then m) pc (rw (then-long m) pc-in))
-          ∙ ap (λ (f : Rust.Field). f.address-mode) (field_is s (unpacked (get_or (then m) pc 0)))
-          ∙ ap mode_of (mode-codes s (lowered-codes pc n (reachOf m) some (shift_of m) pc))
+          (ap (λ (i : Instruction). (field s i).address_mode) (get-word (then m) pc (rw (then-long m) pc-in))
+          ∙ ap (λ (f : Rust.Field). f.address_mode) (field_is s (unpacked (get_or (then m) pc 0)))
+          ∙ ap mode_of (mode-codes s (lowered-codes pc n (reach_of m) some (shift_of m) pc))
           ∙ e) t
 
-      pre : apply-pointer size (map word_of core) pc (field s (get-offset (map word_of core) pc)) Pre ≡ map word_of (then m)
+      pre : apply_pointer size (map word_of core) pc (field s (get_offset (map word_of core) pc)) Pre ≡ map word_of (then m)
       pre =
-          ap (λ (f : Rust.Field). apply-pointer size (map word_of core) pc f Pre) field-read
+          ap (λ (f : Rust.Field). apply_pointer size (map word_of core) pc f Pre) field-read
           ∙ applied-is size small core sound pc n pc-in n-in Pre m
 
-      ptr : resolve-pointer size (map word_of core) pc (field s (get-offset (map word_of core) pc)) ≡ pointer pc n (reachOf m) (shift_of m)
-      ptr = ap (resolve-pointer size (map word_of core) pc) field-read ∙ pointer_is size small core sound pc n pc-in n-in m
+      ptr : resolve_pointer size (map word_of core) pc (field s (get_offset (map word_of core) pc)) ≡ pointer pc n (reach_of m) (shift_of m)
+      ptr = ap (resolve_pointer size (map word_of core) pc) field-read ∙ pointer_is size small core sound pc n pc-in n-in m
 
-      copy : get-offset (map word_of (then m)) (pointer pc n (reachOf m) (shift_of m)) ≡ (result pc n (reachOf m) (shift_of m)).value
-      copy = get-word (then m) _ (rw (then-long m) (pointer-lt pc n (reachOf m) (shift_of m) pc-in))
+      copy : get_offset (map word_of (then m)) (pointer pc n (reach_of m) (shift_of m)) ≡ (result pc n (reach_of m) (shift_of m)).value
+      copy = get-word (then m) _ (rw (then-long m) (pointer-lt pc n (reach_of m) (shift_of m) pc-in))
 
     post : (m : AddressMode) → mode_of (mode s c) ≡ m
-        → apply-pointer size (map word_of (then m)) pc (field s (get-offset (map word_of (then m)) pc)) Post ≡ (result pc n (reachOf m) (shift_of m)).core
+        → apply_pointer size (map word_of (then m)) pc (field s (get_offset (map word_of (then m)) pc)) Post ≡ (result pc n (reach_of m) (shift_of m)).core
     post Immediate e = plain Immediate e
     post Direct e = plain Direct e
     post IndirectA e = plain IndirectA e
@@ -236,20 +236,20 @@ module _ (rules : Rules) (whole : Unlimited rules) (small : rules.size ≤ 46341
     post PostIncIndirectA e = plain PostIncIndirectA e
     post PostIncIndirectB e = plain PostIncIndirectB e
 
-    evaluate-result : (m : AddressMode) → mode_of (mode s c) ≡ m → evaluate s size (map word_of core) pc ≡ result pc n (reachOf m) (shift_of m)
+    evaluate-result : (m : AddressMode) → mode_of (mode s c) ≡ m → evaluate s size (map word_of core) pc ≡ result pc n (reach_of m) (shift_of m)
     evaluate-result m e = λ i. record {
-      core = (ap (λ (x : List Instruction). apply-pointer size x pc (field s (get-offset x pc)) Post) (pre m e) ∙ post m e) i;
+      core = (ap (λ (x : List Instruction). apply_pointer size x pc (field s (get_offset x pc)) Post) (pre m e) ∙ post m e) i;
       ptr = ptr m e i;
-      value = (ap₂ get-offset (pre m e) (ptr m e) ∙ copy m e) i;
+      value = (ap₂ get_offset (pre m e) (ptr m e) ∙ copy m e) i;
     }
 
-    evaluate-former : evaluate s size (map word_of core) pc ≡ seen (former (siteAt rules pc) core (mode s c) n)
+    evaluate-former : evaluate s size (map word_of core) pc ≡ seen (former (site_at rules pc) core (mode s c) n)
     unfolding former
     evaluate-former =
         evaluate-result (mode_of (mode s c)) refl
         ∙ sym (ap₂ (λ (r : Reach) (t : Shift). result pc n r t) (reach-is (mode s c) (mode-in s (get_or core pc 0))) (shift_is (mode s c) (mode-in s (get_or core pc 0))))
 
-    pub evaluate-is : evaluate s size (map word_of core) pc ≡ seen (operand (siteAt rules pc) core (mode s c) n)
+    pub evaluate-is : evaluate s size (map word_of core) pc ≡ seen (operand (site_at rules pc) core (mode s c) n)
     evaluate-is =
         let o = same some pc (mode s c) n in
-        evaluate-former ∙ sym (λ i. record { core = map word_of (o.core i); ptr = o.read i; value = instructionOf (o.register i) })
+        evaluate-former ∙ sym (λ i. record { core = map word_of (o.core i); ptr = o.read i; value = instruction_of (o.register i) })

@@ -8,11 +8,11 @@ use mathlib.Core.Option.{some}
 use native.Mathlib.Omega.{arith}
 use lib.ListN.{length, replicate, length-replicate}
 use borrow.Author.Tests.{ne_eqb}
-use Rattle.cell.specs.Cells.{freshCell}
+use Rattle.cell.specs.Cells.{fresh_cell}
 use Rattle.machine.specs.declared.Rules.{Rules}
 use Rattle.machine.specs.State.{Machine}
 use Rattle.machine.specs.Queue.{entries}
-use Rattle.machine.specs.Fresh.{freshMachine, fresh}
+use Rattle.machine.specs.Fresh.{fresh_machine, fresh}
 use Rattle.machine.specs.Load.{load}
 use Rattle.machine.specs.Whole.{Unlimited}
 use Rattle.machine.proofs.Soundness.{SoundHeader, size-most}
@@ -62,24 +62,24 @@ lists_agree (x ∷ xs) m c s u same d =
     (same, a.0, lists_agree xs (outcome x m).machine (rust b x m c).core (call-sound x m s) (subst Unlimited (sym (call-rules x m)) u) a.1 d.1)
 
 -- fresh cells are the Rust's default instructions
-fresh_cells : (n : ℕ) → replicate n default ≡ map word_of (replicate n freshCell)
+fresh_cells : (n : ℕ) → replicate n default ≡ map word_of (replicate n fresh_cell)
 fresh_cells zero = refl
 fresh_cells (suc n) = ap (λ (l : List Instruction). default ∷ l) (fresh_cells n)
 
 -- the Rust's core of a size that fresh accepts
 abbrev created : ℕ → Core
 created size =
-    record { instructions = replicate size default; process-queue = record { queue = []; processes = []; next-thread-id = [] }; steps-taken = 0 }
+    record { instructions = replicate size default; process_queue = record { queue = []; processes = []; next_thread_id = [] }; steps_taken = 0 }
 
-fresh-same : (rules : Rules) (core queue : List ℕ) → length core ≡ rules.size → Same (freshMachine rules core queue) (created rules.size)
+fresh-same : (rules : Rules) (core queue : List ℕ) → length core ≡ rules.size → Same (fresh_machine rules core queue) (created rules.size)
 unfolding entries
 fresh-same rules core queue e =
     record {
-      instructions = fresh_cells rules.size ∙ ap (λ (n : ℕ). map word_of (replicate n freshCell)) (sym e);
+      instructions = fresh_cells rules.size ∙ ap (λ (n : ℕ). map word_of (replicate n fresh_cell)) (sym e);
       queue = refl;
       processes = refl;
-      next-thread-id = refl;
-      steps-taken = refl;
+      next_thread_id = refl;
+      steps_taken = refl;
     }
 
 -- THE THEOREM
@@ -89,20 +89,20 @@ refinement rules core queue u ok = (created rules.size, made, λ calls. lists_ag
     m : Machine
     m = (fresh rules core queue).machine
 
-    is : m ≡ freshMachine rules core queue
+    is : m ≡ fresh_machine rules core queue
     is = (fresh-accepted rules core queue ok).1
 
     sound : SoundMachine m
     sound = fresh-sound rules core queue ok
 
-    header : SoundHeader (freshMachine rules core queue)
+    header : SoundHeader (fresh_machine rules core queue)
     header = subst SoundHeader is sound.header
 
     made : new rules.size ≡ some (created rules.size)
-    made = simp (ne_eqb rules.size (2 ^ 32 - 1) (λ e. omega (arith, size-most (freshMachine rules core queue) header)))
+    made = simp (ne_eqb rules.size (2 ^ 32 - 1) (λ e. omega (arith, size-most (fresh_machine rules core queue) header)))
 
     whole : Unlimited m.header.rules
     whole = rw is u
 
     same : Same m (created rules.size)
-    same = rw is (fresh-same rules core queue (sym (length-replicate (length core) freshCell) ∙ header.core))
+    same = rw is (fresh-same rules core queue (sym (length-replicate (length core) fresh_cell) ∙ header.core))

@@ -13,22 +13,22 @@ use borrow.Author.Tests.{eqb-true, eqb-false}
 use Rattle.laws.specs.Lists.{lowest, same}
 use Rattle.machine.specs.declared.Header.{Header}
 use Rattle.machine.specs.State.{Machine}
-use Rattle.machine.specs.Names.{names, slot, isNew, register, registered}
-use Rattle.machine.specs.Queue.{unpackedEntry, entries}
+use Rattle.machine.specs.Names.{names, slot, is_new, register, registered}
+use Rattle.machine.specs.Queue.{unpacked_entry, entries}
 use Rattle.machine.proofs.Names.{length-names, names-register, Held, held-register}
 use Rattle.machine.proofs.Soundness.{SoundHeader, name-short, holding}
 use Rattle.machine.proofs.Agreement.{Known, Agree}
 use Rattle.reference.specs.Process as Process
-use Rattle.reference.specs.Process.{Pair, Queue, get, insert, or-zero}
-use Rattle.reference.specs.Core.{Core, with-queue}
+use Rattle.reference.specs.Process.{Pair, Queue, get, insert, or_zero}
+use Rattle.reference.specs.Core.{Core, with_queue}
 use Rattle.reference.specs.Same.{entry_of, pairs, Same}
 use Rattle.reference.proofs.Maps.{pairs-get-new, pairs-insert-new, get-held, insert-held}
 
 -- a queue of the Rust's that has the name already, and pushes to the same
 pub record Named (m : Machine) (c : Core) (n : List ℕ) (g : Header) : Type 0 where
   pub queue : Queue
-  pub same : Same (holding m.core g m) (with-queue c queue)
-  pub pushes : (p : ℕ) → Process.push n p none c.process-queue ≡ Process.push n p none queue
+  pub same : Same (holding m.core g m) (with_queue c queue)
+  pub pushes : (p : ℕ) → Process.push n p none c.process_queue ≡ Process.push n p none queue
 
 module _ (m : Machine) (c : Core) (sound : SoundHeader m) (agree : Agree m) (s : Same m c) (n : List ℕ) (fits : length n ≤ 32) where
   abbrev h : Header
@@ -54,23 +54,23 @@ module _ (m : Machine) (c : Core) (sound : SoundHeader m) (agree : Agree m) (s :
     kept [] k = refl
     kept (w ∷ ws) k =
         ap₂ ◌∷◌
-        (ap (λ (x : List ℕ). record { name = x; thread = (unpackedEntry w).thread; offset = (unpackedEntry w).place.0 })
-        (sym (ap (λ (l : List (List ℕ)). get_or l (unpackedEntry w).name []) news
-        ∙ get_or-append (names h.names) (n ∷ []) [] (unpackedEntry w).name (rw (length-names h) k.0))))
+        (ap (λ (x : List ℕ). record { name = x; thread = (unpacked_entry w).thread; offset = (unpacked_entry w).place.0 })
+        (sym (ap (λ (l : List (List ℕ)). get_or l (unpacked_entry w).name []) news
+        ∙ get_or-append (names h.names) (n ∷ []) [] (unpacked_entry w).name (rw (length-names h) k.0))))
         (kept ws k.1)
 
     abbrev queue : Queue
-    queue = record { queue = c.process-queue.queue; processes = pairs (names g.names) g.counts; next-thread-id = pairs (names g.names) g.threads }
+    queue = record { queue = c.process_queue.queue; processes = pairs (names g.names) g.counts; next_thread_id = pairs (names g.names) g.threads }
 
-    new-same : Same (holding m.core g m) (with-queue c queue)
+    new-same : Same (holding m.core g m) (with_queue c queue)
     unfolding register entries
     new-same =
         record {
           instructions = s.instructions;
           queue = s.queue ∙ kept (entries m) agree.known;
           processes = refl;
-          next-thread-id = refl;
-          steps-taken = s.steps-taken;
+          next_thread_id = refl;
+          steps_taken = s.steps_taken;
         }
 
     -- a map without the name, and one with it and 0: the same once it is raised
@@ -88,8 +88,8 @@ module _ (m : Machine) (c : Core) (sound : SoundHeader m) (agree : Agree m) (s :
       zero-there =
           get-held g h.names.held n held few us long ∙ ap some (ap (λ (l : List ℕ). get_or l h.names.held 0) u ∙ get_or-set_same vs h.names.held 0 0 (rw l room))
 
-      number_same : or-zero (get n p) ≡ or-zero (get n (pairs (names g.names) us))
-      number_same = ap or-zero none_yet ∙ sym (ap or-zero zero-there)
+      number_same : or_zero (get n p) ≡ or_zero (get n (pairs (names g.names) us))
+      number_same = ap or_zero none_yet ∙ sym (ap or_zero zero-there)
 
       raised-without : insert n 1 p ≡ pairs (names h.names ++ (n ∷ [])) (set vs h.names.held 1)
       raised-without =
@@ -103,11 +103,11 @@ module _ (m : Machine) (c : Core) (sound : SoundHeader m) (agree : Agree m) (s :
           ∙ ap₂ (λ (l : List (List ℕ)) (x : List ℕ). pairs l (set x h.names.held 1)) news u
           ∙ ap (pairs (names h.names ++ (n ∷ []))) (set-set vs h.names.held 0 1)
 
-      raised-same : insert n (or-zero (get n p) + 1) p ≡ insert n (or-zero (get n (pairs (names g.names) us)) + 1) (pairs (names g.names) us)
+      raised-same : insert n (or_zero (get n p) + 1) p ≡ insert n (or_zero (get n (pairs (names g.names) us)) + 1) (pairs (names g.names) us)
       raised-same =
-          ap (λ (o : Option ℕ). insert n (or-zero o + 1) p) none_yet
+          ap (λ (o : Option ℕ). insert n (or_zero o + 1) p) none_yet
           ∙ raised-without
-          ∙ sym (ap (λ (o : Option ℕ). insert n (or-zero o + 1) (pairs (names g.names) us)) zero-there ∙ raised-with)
+          ∙ sym (ap (λ (o : Option ℕ). insert n (or_zero o + 1) (pairs (names g.names) us)) zero-there ∙ raised-with)
 
     counts-are : g.counts ≡ set h.counts h.names.held 0
     unfolding register
@@ -117,24 +117,24 @@ module _ (m : Machine) (c : Core) (sound : SoundHeader m) (agree : Agree m) (s :
     unfolding register
     threads-are = refl
 
-    new-pushes : (p : ℕ) → Process.push n p none c.process-queue ≡ Process.push n p none queue
+    new-pushes : (p : ℕ) → Process.push n p none c.process_queue ≡ Process.push n p none queue
     unfolding Process.push
     new-pushes p =
-        let a = number_same h.threads g.threads c.process-queue.next-thread-id sound.shape.threads threads-are s.next-thread-id in
-        let b = raised-same h.counts g.counts c.process-queue.processes sound.shape.counts counts-are s.processes in
-        let d = raised-same h.threads g.threads c.process-queue.next-thread-id sound.shape.threads threads-are s.next-thread-id in
+        let a = number_same h.threads g.threads c.process_queue.next_thread_id sound.shape.threads threads-are s.next_thread_id in
+        let b = raised-same h.counts g.counts c.process_queue.processes sound.shape.counts counts-are s.processes in
+        let d = raised-same h.threads g.threads c.process_queue.next_thread_id sound.shape.threads threads-are s.next_thread_id in
         λ j. record {
-          queue = c.process-queue.queue ++ (record { name = n; thread = a j; offset = p } ∷ []);
+          queue = c.process_queue.queue ++ (record { name = n; thread = a j; offset = p } ∷ []);
           processes = b j;
-          next-thread-id = d j;
+          next_thread_id = d j;
         }
 
   -- a name, held or new
-  pub named : (isNew h.names n && eqb h.names.held 16) ≡ false → Named m c n (registered h n)
-  named free = go (isNew h.names n) refl free
+  pub named : (is_new h.names n && eqb h.names.held 16) ≡ false → Named m c n (registered h n)
+  named free = go (is_new h.names n) refl free
     where
-      go : (b : Bool) → isNew h.names n ≡ b → (b && eqb h.names.held 16) ≡ false → Named m c n (cond b (register h n) h)
-      go false e free = record { queue = c.process-queue; same = held_same; pushes = λ p. refl }
+      go : (b : Bool) → is_new h.names n ≡ b → (b && eqb h.names.held 16) ≡ false → Named m c n (cond b (register h n) h)
+      go false e free = record { queue = c.process_queue; same = held_same; pushes = λ p. refl }
         where
           held_same : Same (holding m.core h m) c
           held_same = s

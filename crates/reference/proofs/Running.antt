@@ -11,7 +11,7 @@ use Rattle.machine.specs.declared.Ceiling.{Ceiling}
 use Rattle.machine.specs.declared.Ceiling.TheVariants.{Unsaid, Steps}
 use Rattle.machine.specs.State.{Machine, joined}
 use Rattle.machine.specs.Step.{step}
-use Rattle.machine.specs.Run.{plays, ceilingOf, run}
+use Rattle.machine.specs.Run.{plays, ceiling_of, run}
 use Rattle.machine.specs.Whole.{Unlimited}
 use Rattle.machine.proofs.Soundness.{header-sound}
 use Rattle.machine.proofs.Step.{step-executed, step-fixed}
@@ -19,9 +19,9 @@ use Rattle.machine.proofs.Run.{run-plays}
 use Rattle.machine.proofs.SoundMachine.{SoundMachine, step_keeps}
 use Rattle.reference.specs.Process.{NoRemainingProcesses, ExecuteDat, DivideByZero}
 use Rattle.reference.specs.Core as Rust
-use Rattle.reference.specs.Core.{Core, WarriorTooLong, Err, Panic, max-cycles, is_ok, loop}
+use Rattle.reference.specs.Core.{Core, WarriorTooLong, Err, Panic, max_cycles, is_ok, loop}
 use Rattle.reference.specs.Same.{Same}
-use Rattle.reference.specs.Refinement.{meetsStep, meetsPlays, answered, cyclesOf, answer_of}
+use Rattle.reference.specs.Refinement.{meets_step, meets_plays, answered, cycles_of, answer_of}
 use Rattle.reference.proofs.Stepping.{Agreed, step-agrees}
 
 -- an answer that is not 0 is not Ok
@@ -37,7 +37,7 @@ not-ok n v e = simp e (go (eqb n 3) (eqb n 7) (eqb n 11) (eqb n 12))
     go false false false false = refl
 
 plays-agree : (k max : ℕ) (m : Machine) (c : Core) → SoundMachine m → Unlimited m.header.rules → Same m c → k ≡ max - m.header.steps
-    → answered (plays k m).number ≡ true → meetsPlays k m ≡ false → Agreed (plays k m) (loop k max c)
+    → answered (plays k m).number ≡ true → meets_plays k m ≡ false → Agreed (plays k m) (loop k max c)
 plays-agree zero max m c s u same q a f = record { answer = refl; same = same }
 plays-agree (suc k) max m c s u same q a f =
     go (eqb (step m).number 0) refl a free.1
@@ -45,17 +45,17 @@ plays-agree (suc k) max m c s u same q a f =
   where
     Rest : Type 0
     Rest = Same (step m).machine (Rust.step c).core → k ≡ max - (step m).machine.header.steps → answered (plays k (step m).machine).number ≡ true
-        → meetsPlays k (step m).machine ≡ false → Agreed (plays k (step m).machine) (loop k max (Rust.step c).core)
+        → meets_plays k (step m).machine ≡ false → Agreed (plays k (step m).machine) (loop k max (Rust.step c).core)
 
-    free : (meetsStep m ≡ false) × (cond (eqb (step m).number 0) (meetsPlays k (step m).machine) false ≡ false)
-    free = neither (meetsStep m) _ f
+    free : (meets_step m ≡ false) × (cond (eqb (step m).number 0) (meets_plays k (step m).machine) false ≡ false)
+    free = neither (meets_step m) _ f
 
     turn : loop (suc k) max c ≡ cond (is_ok (Rust.step c).answer) (loop k max (Rust.step c).core) (Rust.step c)
-    turn = simp (ap (λ (n : ℕ). ltb n max) same.steps-taken ∙ lt-ltb m.header.steps max (omega arith))
+    turn = simp (ap (λ (n : ℕ). ltb n max) same.steps_taken ∙ lt-ltb m.header.steps max (omega arith))
 
     go : (b : Bool) → eqb (step m).number 0 ≡ b
         → answered (cond b (joined (step m) (plays k (step m).machine)) (step m)).number ≡ true
-        → cond b (meetsPlays k (step m).machine) false ≡ false
+        → cond b (meets_plays k (step m).machine) false ≡ false
         → Rest
         → Agreed (cond b (joined (step m) (plays k (step m).machine)) (step m)) (loop (suc k) max c)
     go true e a g r =
@@ -77,19 +77,19 @@ plays-agree (suc k) max m c s u same q a f =
         one : Agreed (step m) (Rust.step c)
         one = step-agrees m c s u same a free.0
 
-cycles-are : (ceiling : Ceiling) → max-cycles (cyclesOf ceiling) ≡ ceilingOf ceiling
+cycles-are : (ceiling : Ceiling) → max_cycles (cycles_of ceiling) ≡ ceiling_of ceiling
 cycles-are Unsaid = refl
 cycles-are (Steps n) = refl
 
 -- the loop goes round as often as our run steps
 turns-are : (ceiling : Ceiling) (m : Machine) (c : Core) → Same m c
-    → Rust.run (cyclesOf ceiling) c ≡ loop (ceilingOf ceiling - m.header.steps) (ceilingOf ceiling) c
+    → Rust.run (cycles_of ceiling) c ≡ loop (ceiling_of ceiling - m.header.steps) (ceiling_of ceiling) c
 unfolding Rust.run
-turns-are ceiling m c same = ap₂ (λ (x y : ℕ). loop (x - y) x c) (cycles-are ceiling) same.steps-taken
+turns-are ceiling m c same = ap₂ (λ (x y : ℕ). loop (x - y) x c) (cycles-are ceiling) same.steps_taken
 
 pub run-agrees : (ceiling : Ceiling) (m : Machine) (c : Core) → SoundMachine m → Unlimited m.header.rules → Same m c
-    → answered (run ceiling m).number ≡ true → meetsPlays (ceilingOf ceiling - m.header.steps) m ≡ false
-    → Agreed (run ceiling m) (Rust.run (cyclesOf ceiling) c)
+    → answered (run ceiling m).number ≡ true → meets_plays (ceiling_of ceiling - m.header.steps) m ≡ false
+    → Agreed (run ceiling m) (Rust.run (cycles_of ceiling) c)
 run-agrees ceiling m c s u same =
     rw (run-plays ceiling m (header-sound m s.header), turns-are ceiling m c same)
-    (plays-agree (ceilingOf ceiling - m.header.steps) (ceilingOf ceiling) m c s u same refl)
+    (plays-agree (ceiling_of ceiling - m.header.steps) (ceiling_of ceiling) m c s u same refl)

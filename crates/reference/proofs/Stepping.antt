@@ -16,7 +16,7 @@ use Rattle.machine.specs.declared.Header.{Header}
 use Rattle.machine.specs.State.{Machine, Outcome, accepted, refusal, first}
 use Rattle.machine.specs.Queue.{entry, slots, entries, front, name_of, full, pop, push, started}
 use Rattle.machine.specs.Execution.{Ending, dat, divisor, Next, ends, goes, splits}
-use Rattle.machine.specs.Step.{popped, pc, instruction, effect, coreAfter, counted, queued, nextTold, executed, stepChecks, step}
+use Rattle.machine.specs.Step.{popped, pc, instruction, effect, core_after, counted, queued, next_told, executed, step_checks, step}
 use Rattle.machine.specs.Whole.{Unlimited}
 use Rattle.machine.proofs.Checks.{passed, only, other, others, without}
 use Rattle.machine.proofs.Names.{Held}
@@ -32,10 +32,10 @@ use Rattle.reference.specs.Process as Process
 use Rattle.reference.specs.Process.{NoRemainingProcesses, ExecuteDat, DivideByZero, get}
 use Rattle.reference.specs.Opcodes.{Result, Execution, execute}
 use Rattle.reference.specs.Core as Rust
-use Rattle.reference.specs.Core.{Core, Err, Returned, unless-alive, with-queue, after, stepped}
+use Rattle.reference.specs.Core.{Core, Err, Returned, unless_alive, with_queue, after, stepped}
 use Rattle.reference.specs.Same.{word_of, entry_of, Same}
-use Rattle.reference.specs.Refinement.{isSplit, meetsStep, answered, answer_of}
-use Rattle.reference.proofs.Registers.{errorOf, Matches}
+use Rattle.reference.specs.Refinement.{is_split, meets_step, answered, answer_of}
+use Rattle.reference.proofs.Registers.{error_of, Matches}
 use Rattle.reference.proofs.Maps.{get-held}
 use Rattle.reference.proofs.Queues.{push-same, started-same, fewer, left, pop-is, counted_same}
 use Rattle.reference.proofs.Steps.{execute-is}
@@ -47,13 +47,13 @@ pub record Agreed (o : Outcome) (r : Returned) : Type 0 where
 
 -- an ending is told where no entry of the name is left
 alive : (x : Ending) (place count : ℕ)
-    → unless-alive (some count) (errorOf x place) ≡ answer_of (nextTold (ends x) count place).number (nextTold (ends x) count place).value
+    → unless_alive (some count) (error_of x place) ≡ answer_of (next_told (ends x) count place).number (next_told (ends x) count place).value
 alive dat place zero = refl
 alive dat place (suc n) = simp (le-ltb (suc n) 1 (omega arith), eqb-suc-zero n)
 alive divisor place zero = refl
 alive divisor place (suc n) = simp (le-ltb (suc n) 1 (omega arith), eqb-suc-zero n)
 
-module _ (m : Machine) (c : Core) (s : SoundMachine m) (whole : Unlimited m.header.rules) (same : Same m c) (e : first (stepChecks m) ≡ accepted) where
+module _ (m : Machine) (c : Core) (s : SoundMachine m) (whole : Unlimited m.header.rules) (same : Same m c) (e : first (step_checks m) ≡ accepted) where
   abbrev h : Header
   h = m.header
 
@@ -68,18 +68,18 @@ module _ (m : Machine) (c : Core) (s : SoundMachine m) (whole : Unlimited m.head
 
   opcode-in : (instruction m).opcode < 17
   opcode-in =
-      not_last (instruction m).opcode (fields_at h.rules.size m.core s.core (pc m) pc-in).opcode (passed (stepChecks m) e).1.1.1.1.1.0
+      not_last (instruction m).opcode (fields_at h.rules.size m.core s.core (pc m) pc-in).opcode (passed (step_checks m) e).1.1.1.1.1.0
 
   abbrev execution : Execution
   execution = execute h.rules.size (map word_of m.core) (pc m)
 
   -- popped, the step counted, the instruction executed
   abbrev rust : Core
-  rust = record { instructions = execution.core; process-queue = left m c same r; steps-taken = c.steps-taken + 1 }
+  rust = record { instructions = execution.core; process_queue = left m c same r; steps_taken = c.steps_taken + 1 }
 
   counting-same : Same (counting m) rust
-  unfolding coreAfter effect
-  counting-same = counted_same m c same r (coreAfter m) execution.core (execute-is m s whole pc-in opcode-in).core
+  unfolding core_after effect
+  counting-same = counted_same m c same r (core_after m) execution.core (execute-is m s whole pc-in opcode-in).core
 
   step_is : Rust.step c ≡ after h.rules.size execution.result (entry_of h (front m)) rust
   unfolding Rust.step
@@ -91,13 +91,13 @@ module _ (m : Machine) (c : Core) (s : SoundMachine m) (whole : Unlimited m.head
       run : ℕ → List Instruction → Returned
       run n l =
           after n (execute n l (pc m)).result (entry_of h (front m))
-          (record { instructions = (execute n l (pc m)).core; process-queue = left m c same r; steps-taken = c.steps-taken + 1 })
+          (record { instructions = (execute n l (pc m)).core; process_queue = left m c same r; steps_taken = c.steps_taken + 1 })
 
   counting-agree : Agree (counting m)
-  counting-agree = counted-agree (coreAfter m) (pop m) (pop-agree m t r.header (front-held m r) s.agree r.some r.entry.count)
+  counting-agree = counted-agree (core_after m) (pop m) (pop-agree m t r.header (front-held m r) s.agree r.some r.entry.count)
 
   counting-held : Held (counting m).header (popped m).name t
-  counting-held = counted-held (coreAfter m) (pop m) (pop-held m t r.header (front-held m r) s.agree r.some r.entry.count)
+  counting-held = counted-held (core_after m) (pop m) (pop-held m t r.header (front-held m r) s.agree r.some r.entry.count)
 
   place-fits : (p : ℕ) → p < h.rules.size → p < 2 ^ 16
   place-fits p l = omega (arith, size_small m s.header)
@@ -110,7 +110,7 @@ module _ (m : Machine) (c : Core) (s : SoundMachine m) (whole : Unlimited m.head
   one p = push (next p) (counting m)
 
   abbrev rust-one : ℕ → Core
-  rust-one x = with-queue rust (Process.push t x (some (popped m).thread) (left m c same r))
+  rust-one x = with_queue rust (Process.push t x (some (popped m).thread) (left m c same r))
 
   one_same : (p : ℕ) → p < h.rules.size → Same (one p) (rust-one p)
   one_same p l =
@@ -131,7 +131,7 @@ module _ (m : Machine) (c : Core) (s : SoundMachine m) (whole : Unlimited m.head
   one-thread p = let l = thread-most h (popped m).name s.numbers in omega arith
 
   two-same : (p y : ℕ) → p < h.rules.size → y < h.rules.size → full m (popped m).name ≡ false
-      → Same (started y (popped m).name (one p)) (with-queue rust (Process.push t y none (rust-one p).process-queue))
+      → Same (started y (popped m).name (one p)) (with_queue rust (Process.push t y none (rust-one p).process_queue))
   two-same p y l k f =
       started-same (one p) (rust-one p) (one_same p l) (one-sound p) y (popped m).name t
       (push-held (counting m) (next p) t (counting-sound m r) counting-held counting-agree (counting-room m r)) (place-fits y k) (one-thread p) (room-left p f)
@@ -144,26 +144,26 @@ module _ (m : Machine) (c : Core) (s : SoundMachine m) (whole : Unlimited m.head
   unfolding counted pop
   count-is = get-held h (popped m).name t (front-held m r) s.header.few (fewer m c same r) (length-set h.counts _ _ ∙ s.header.shape.counts)
 
-  abbrev outcomeOf : Next → Outcome
-  outcomeOf x =
-      let told = nextTold x count (pc m) in
+  abbrev outcome_of : Next → Outcome
+  outcome_of x =
+      let told = next_told x count (pc m) in
       record { machine = (queued x (popped m) (counting m)).machine; number = told.number; value = told.value; writes = 0; steps = 1; pushes = 0 }
 
-  abbrev returnedOf : Result → Returned
-  returnedOf x = after h.rules.size x (entry_of h (front m)) rust
+  abbrev returned_of : Result → Returned
+  returned_of x = after h.rules.size x (entry_of h (front m)) rust
 
-  finish : (x : Next) (y : Result) → Matches h.rules.size (pc m) x y → Places (λ p. p < h.rules.size) x → (isSplit x && full m (popped m).name) ≡ false
-      → Agreed (outcomeOf x) (returnedOf y)
+  finish : (x : Next) (y : Result) → Matches h.rules.size (pc m) x y → Places (λ p. p < h.rules.size) x → (is_split x && full m (popped m).name) ≡ false
+      → Agreed (outcome_of x) (returned_of y)
   finish (ends dat) y q l f =
-      rw q (record { answer = ap (λ (o : Option ℕ). unless-alive o (ExecuteDat (pc m))) count-is ∙ alive dat (pc m) count; same = counting-same })
+      rw q (record { answer = ap (λ (o : Option ℕ). unless_alive o (ExecuteDat (pc m))) count-is ∙ alive dat (pc m) count; same = counting-same })
   finish (ends divisor) y q l f =
-      rw q (record { answer = ap (λ (o : Option ℕ). unless-alive o DivideByZero) count-is ∙ alive divisor (pc m) count; same = counting-same })
+      rw q (record { answer = ap (λ (o : Option ℕ). unless_alive o DivideByZero) count-is ∙ alive divisor (pc m) count; same = counting-same })
   finish (goes p) y q l f = rw q.1 (record { answer = refl; same = rw q.2 (one_same p l) })
   finish (splits p y) z q l f =
       rw (q.1, lt-leb (length (one p).queue) (one p).header.ring.length (room-left p f))
       (record { answer = refl; same = rw (q.2, q.3) (two-same p y l.0 l.1 f) })
 
-  pub executed-agrees : meetsStep m ≡ false → Agreed (executed m) (Rust.step c)
+  pub executed-agrees : meets_step m ≡ false → Agreed (executed m) (Rust.step c)
   unfolding executed
   executed-agrees f =
       rw step_is
@@ -171,24 +171,24 @@ module _ (m : Machine) (c : Core) (s : SoundMachine m) (whole : Unlimited m.head
       record { answer = a.answer; same = a.same })
 
 -- refused in the domain: the queue is empty
-module _ (m : Machine) (n v : ℕ) (e : first (stepChecks m) ≡ refusal n v) (a : answered n ≡ true) where
+module _ (m : Machine) (n v : ℕ) (e : first (step_checks m) ≡ refusal n v) (a : answered n ≡ true) where
   is-seven : n ≡ 7
-  is-seven = only answered 7 (stepChecks m) refl n v e a
+  is-seven = only answered 7 (step_checks m) refl n v e a
 
   is-empty : m.header.ring.length ≡ 0
   is-empty = go (eqb m.header.ring.length 0) refl
     where
       go : (b : Bool) → eqb m.header.ring.length 0 ≡ b → m.header.ring.length ≡ 0
       go true q = eqb-true _ _ q
-      go false q = absurd (without 7 (stepChecks m) (inr (other tt) and λ x. inl q and λ y. others 7 (drop 2 (stepChecks m)) refl) n v e is-seven)
+      go false q = absurd (without 7 (step_checks m) (inr (other tt) and λ x. inl q and λ y. others 7 (drop 2 (step_checks m)) refl) n v e is-seven)
 
 nothing-popped : (m : Machine) (c : Core) → Same m c → m.header.ring.length ≡ 0 → Rust.step c ≡ record { core = c; answer = Err NoRemainingProcesses }
 unfolding Rust.step entries
 nothing-popped m c s e =
-    ap (λ (q : List Process.Entry). stepped c (Process.pop-from q c.process-queue))
+    ap (λ (q : List Process.Entry). stepped c (Process.pop_from q c.process_queue))
     (s.queue ∙ ap (λ (n : ℕ). map (entry_of m.header) (slots m.queue m.header.ring.head n)) e)
 
-pub step-agrees : (m : Machine) (c : Core) → SoundMachine m → Unlimited m.header.rules → Same m c → answered (step m).number ≡ true → meetsStep m ≡ false
+pub step-agrees : (m : Machine) (c : Core) → SoundMachine m → Unlimited m.header.rules → Same m c → answered (step m).number ≡ true → meets_step m ≡ false
     → Agreed (step m) (Rust.step c)
 step-agrees m c s whole same a f =
     step-by-cases (λ o. answered o.number ≡ true → Agreed o (Rust.step c)) m

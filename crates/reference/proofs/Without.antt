@@ -11,7 +11,7 @@ use Rattle.machine.specs.declared.Ceiling.TheVariants.{Steps}
 use Rattle.machine.specs.State.{Machine}
 use Rattle.machine.specs.Load.{load}
 use Rattle.machine.specs.Step.{step, executes}
-use Rattle.machine.specs.Run.{plays, ceilingOf, run}
+use Rattle.machine.specs.Run.{plays, ceiling_of, run}
 use Rattle.machine.specs.Whole.{Unlimited}
 use Rattle.machine.proofs.Soundness.{header-sound}
 use Rattle.machine.proofs.Load.{load-refused}
@@ -21,7 +21,7 @@ use Rattle.machine.proofs.SoundMachine.{SoundMachine}
 use Rattle.account.specs.Calls.{Call, Load, Step, Run, outcome}
 use Rattle.reference.specs.Core.{Core, Ok}
 use Rattle.reference.specs.Same.{Same}
-use Rattle.reference.specs.Refinement.{meetsPlays, meetsBefore, answered, answer_of, without}
+use Rattle.reference.specs.Refinement.{meets_plays, meets_before, answered, answer_of, without}
 use Rattle.reference.proofs.Stepping.{Agreed}
 use Rattle.reference.proofs.Running.{run-agrees}
 
@@ -51,7 +51,7 @@ not_done n a = go (eqb n 0) refl
 
 -- of a run, the Rust's run to its last step
 run-without : (ceiling : Ceiling) (m : Machine) (c : Core) → SoundMachine m → Unlimited m.header.rules → Same m c → answered (run ceiling m).number ≡ false
-    → meetsPlays (run ceiling m).steps m ≡ false
+    → meets_plays (run ceiling m).steps m ≡ false
     → ((without (Run ceiling) m c).answer ≡ Ok) × Same (run ceiling m).machine (without (Run ceiling) m c).core
 run-without ceiling m c s u same a f =
     (agreed.answer ∙ ap (λ (n : ℕ). answer_of n (run to m).value) answer, subst (λ (n : Machine). Same n (without (Run ceiling) m c).core) leaves agreed.same)
@@ -65,10 +65,10 @@ run-without ceiling m c s u same a f =
     inside : RefusedInside m (run ceiling m)
     inside =
         subst (RefusedInside m) (sym (run-plays ceiling m (header-sound m s.header)))
-        (plays-refused (ceilingOf ceiling - m.header.steps) m
+        (plays-refused (ceiling_of ceiling - m.header.steps) m
         (ap (λ n. executes n.number) (sym (run-plays ceiling m (header-sound m s.header))) ∙ not-executed (run ceiling m).number a))
 
-    turns : ceilingOf to - m.header.steps ≡ k
+    turns : ceiling_of to - m.header.steps ≡ k
     turns = let e = run-counts ceiling m in omega arith
 
     is : run to m ≡ plays k m
@@ -81,9 +81,9 @@ run-without ceiling m c s u same a f =
     leaves = ap (λ o. o.machine) is ∙ sym inside.2
 
     agreed : Agreed (run to m) (without (Run ceiling) m c)
-    agreed = run-agrees to m c s u same (ap answered answer) (ap (λ (n : ℕ). meetsPlays n m) turns ∙ f)
+    agreed = run-agrees to m c s u same (ap answered answer) (ap (λ (n : ℕ). meets_plays n m) turns ∙ f)
 
-pub without-agrees : (x : Call) (m : Machine) (c : Core) → SoundMachine m → Unlimited m.header.rules → Same m c → answered (outcome x m).number ≡ false → meetsBefore x m ≡ false
+pub without-agrees : (x : Call) (m : Machine) (c : Core) → SoundMachine m → Unlimited m.header.rules → Same m c → answered (outcome x m).number ≡ false → meets_before x m ≡ false
     → ((without x m c).answer ≡ Ok) × Same (outcome x m).machine (without x m c).core
 without-agrees (Load name body origin place) m c s u same a f =
     (refl, subst (λ (n : Machine). Same n c) (sym (load-refused m name body origin place (not_done (load m name body origin place).number a)).machine) same)

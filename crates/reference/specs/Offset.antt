@@ -11,8 +11,8 @@ abbrev pub offset : ℕ → ℤ → ℕ
 offset m value = euclid value m
 
 -- new panics: core_size has no i32, or is the zero divisor
-abbrev pub no-offset : ℕ → Bool
-no-offset m = eqb m 0 || leb (2 ^ 31) m
+abbrev pub no_offset : ℕ → Bool
+no_offset m = eqb m 0 || leb (2 ^ 31) m
 
 -- an integer wrapped round to 32 bits
 abbrev pub i32 : ℤ → ℤ
@@ -32,8 +32,8 @@ abbrev pub rem : ℕ → ℕ → ℕ → ℕ
 rem m x y = offset m (pos (x % y))
 
 -- those of an offset and an i32, which becomes an offset first
-abbrev pub add-i32 : ℕ → ℕ → ℤ → ℕ
-add-i32 m x n = add m x (offset m n)
+abbrev pub add_i32 : ℕ → ℕ → ℤ → ℕ
+add_i32 m x n = add m x (offset m n)
 
-abbrev pub sub-i32 : ℕ → ℕ → ℤ → ℕ
-sub-i32 m x n = sub m x (offset m n)
+abbrev pub sub_i32 : ℕ → ℕ → ℤ → ℕ
+sub_i32 m x n = sub m x (offset m n)

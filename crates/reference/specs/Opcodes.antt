@@ -2,15 +2,15 @@
 -- Believed. Assumes nothing.
 use Rattle.std.specs.Prelude.{ℕ, ◌*◌, ◌^◌, Bool, true, false, cond, not, ◌||◌, List, eqb, leb, pos}
 use Rattle.std.proofs.Math.Option.{Option, none, some}
-use Rattle.reference.specs.Types.{Opcode, Add, Cmp, Dat, Div, Djn, Jmn, Jmp, Jmz, Ldp, Mod, Mov, Mul, Nop, Seq, Slt, Sne, Spl, Stp, Sub, Instruction, instruction-eq}
-use Rattle.reference.specs.Offset.{offset, add, sub, div, rem, sub-i32}
-use Rattle.reference.specs.Address.{get-offset}
-use Rattle.reference.specs.Modifiers.{Executor, executor, Called, Ran, run-on-instructions, run-on-fields, written}
+use Rattle.reference.specs.Types.{Opcode, Add, Cmp, Dat, Div, Djn, Jmn, Jmp, Jmz, Ldp, Mod, Mov, Mul, Nop, Seq, Slt, Sne, Spl, Stp, Sub, Instruction, instruction_eq}
+use Rattle.reference.specs.Offset.{offset, add, sub, div, rem, sub_i32}
+use Rattle.reference.specs.Address.{get_offset}
+use Rattle.reference.specs.Modifiers.{Executor, executor, Called, Ran, run_on_instructions, run_on_fields, written}
 use Rattle.reference.specs.Process.{Error, ExecuteDat, DivideByZero}
 
 pub record Executed : Type 0 where
-  pub program-counter-offset : Option ℕ
-  pub should-split : Bool
+  pub program_counter_offset : Option ℕ
+  pub should_split : Bool
 
 -- what execute returns, or a panic
 pub data Result : Type 0 where
@@ -44,64 +44,64 @@ abbrev pub divides : (ℕ → ℕ → ℕ) → Option Error → ℕ → ℕ → 
 divides f s a b = cond (eqb b 0) (leaves (some DivideByZero)) (returns s (f a b))
 
 -- of the others: where the test passes, program_counter_offset is set
-abbrev pub sets-if : {R : Type 0} → Option ℕ → Bool → Option ℕ → Called (Option ℕ) R
-sets-if to test s = leaves (cond test to s)
+abbrev pub sets_if : {R : Type 0} → Option ℕ → Bool → Option ℕ → Called (Option ℕ) R
+sets_if to test s = leaves (cond test to s)
 
 abbrev pub decrements : ℕ → ℕ → ℕ → Option ℕ → ℕ → ℕ → Called (Option ℕ) ℕ
-decrements m nothing jump-offset s a b =
-    let decremented = sub-i32 m b (pos 1) in
-    returns (cond (not (eqb decremented nothing)) (some jump-offset) s) decremented
+decrements m nothing jump_offset s a b =
+    let decremented = sub_i32 m b (pos 1) in
+    returns (cond (not (eqb decremented nothing)) (some jump_offset) s) decremented
 
 -- fields and whole instructions that differ
 abbrev pub unlike : Option ℕ → Option ℕ → ℕ → ℕ → Called (Option ℕ) ℕ
-unlike to s a b = sets-if to (not (eqb a b)) s
+unlike to s a b = sets_if to (not (eqb a b)) s
 
-abbrev pub unlike-whole : Option ℕ → Option ℕ → Instruction → Instruction → Called (Option ℕ) Instruction
-unlike-whole to s a b = sets-if to (not (instruction-eq a b)) s
+abbrev pub unlike_whole : Option ℕ → Option ℕ → Instruction → Instruction → Called (Option ℕ) Instruction
+unlike_whole to s a b = sets_if to (not (instruction_eq a b)) s
 
 -- execution ends well, with program_counter_offset
 abbrev pub fine : List Instruction → Option ℕ → Execution
-fine core to = record { core = core; result = Ok (record { program-counter-offset = to; should-split = false }) }
+fine core to = record { core = core; result = Ok (record { program_counter_offset = to; should_split = false }) }
 
 -- so it does with the instruction at the B pointer written
 abbrev pub finished : Executor → Ran (Option ℕ) → Execution
 finished e r = fine (written e r) r.captured
 
 -- an error that was captured is returned
-abbrev pub unless-error : Option Error → Result
-unless-error none = Ok (record { program-counter-offset = none; should-split = false })
-unless-error (some err) = Err err
+abbrev pub unless_error : Option Error → Result
+unless_error none = Ok (record { program_counter_offset = none; should_split = false })
+unless_error (some err) = Err err
 
 abbrev pub divided : Executor → Ran (Option Error) → Execution
-divided e r = record { core = written e r; result = unless-error r.captured }
+divided e r = record { core = written e r; result = unless_error r.captured }
 
 abbrev pub multiplied : Executor → Ran Bool → Execution
-multiplied e r = record { core = written e r; result = cond r.captured Panic (unless-error none) }
+multiplied e r = record { core = written e r; result = cond r.captured Panic (unless_error none) }
 
 -- by the opcode; zero is offset m 0, skip_one offset m 2, jump_offset the A pointer less program_counter
-abbrev pub by-opcode : Opcode → ℕ → ℕ → Executor → Execution
-by-opcode Dat m pc e = record { core = e.core; result = Err (ExecuteDat pc) }
-by-opcode Mov m pc e = finished e (run-on-instructions m e moves (some moves) none)
-by-opcode Nop m pc e = fine e.core none
-by-opcode Add m pc e = finished e (run-on-fields m e (λ s a b. returns s (add m a b)) none)
-by-opcode Mul m pc e = multiplied e (run-on-fields m e (multiplies m) false)
-by-opcode Sub m pc e = finished e (run-on-fields m e (λ s a b. returns s (sub m b a)) none)
-by-opcode Div m pc e = divided e (run-on-fields m e (divides (div m)) none)
-by-opcode Mod m pc e = divided e (run-on-fields m e (divides (rem m)) none)
-by-opcode Cmp m pc e = finished e (run-on-instructions m e (unlike none) (some (unlike-whole none)) (some (offset m (pos 2))))
-by-opcode Seq m pc e = finished e (run-on-instructions m e (unlike none) (some (unlike-whole none)) (some (offset m (pos 2))))
-by-opcode Slt m pc e = finished e (run-on-fields m e (λ s a b. sets-if none (leb b a) s) (some (offset m (pos 2))))
-by-opcode Sne m pc e =
-    finished e (run-on-instructions m e (unlike (some (offset m (pos 2)))) (some (unlike-whole (some (offset m (pos 2))))) none)
-by-opcode Djn m pc e = finished e (run-on-fields m e (decrements m (offset m (pos 0)) (sub m e.a_ptr pc)) none)
-by-opcode Jmn m pc e = finished e (run-on-fields m e (λ s a b. sets-if (some (sub m e.a_ptr pc)) (not (eqb b (offset m (pos 0)))) s) none)
-by-opcode Jmp m pc e = fine e.core (some (sub m e.a_ptr pc))
-by-opcode Spl m pc e =
-    record { core = e.core; result = Ok (record { program-counter-offset = some (sub m e.a_ptr pc); should-split = true }) }
-by-opcode Jmz m pc e = finished e (run-on-fields m e (λ s a b. sets-if (some (sub m e.a_ptr pc)) (eqb b (offset m (pos 0))) s) none)
-by-opcode Ldp m pc e = record { core = e.core; result = Panic }
-by-opcode Stp m pc e = record { core = e.core; result = Panic }
+abbrev pub by_opcode : Opcode → ℕ → ℕ → Executor → Execution
+by_opcode Dat m pc e = record { core = e.core; result = Err (ExecuteDat pc) }
+by_opcode Mov m pc e = finished e (run_on_instructions m e moves (some moves) none)
+by_opcode Nop m pc e = fine e.core none
+by_opcode Add m pc e = finished e (run_on_fields m e (λ s a b. returns s (add m a b)) none)
+by_opcode Mul m pc e = multiplied e (run_on_fields m e (multiplies m) false)
+by_opcode Sub m pc e = finished e (run_on_fields m e (λ s a b. returns s (sub m b a)) none)
+by_opcode Div m pc e = divided e (run_on_fields m e (divides (div m)) none)
+by_opcode Mod m pc e = divided e (run_on_fields m e (divides (rem m)) none)
+by_opcode Cmp m pc e = finished e (run_on_instructions m e (unlike none) (some (unlike_whole none)) (some (offset m (pos 2))))
+by_opcode Seq m pc e = finished e (run_on_instructions m e (unlike none) (some (unlike_whole none)) (some (offset m (pos 2))))
+by_opcode Slt m pc e = finished e (run_on_fields m e (λ s a b. sets_if none (leb b a) s) (some (offset m (pos 2))))
+by_opcode Sne m pc e =
+    finished e (run_on_instructions m e (unlike (some (offset m (pos 2)))) (some (unlike_whole (some (offset m (pos 2))))) none)
+by_opcode Djn m pc e = finished e (run_on_fields m e (decrements m (offset m (pos 0)) (sub m e.a_ptr pc)) none)
+by_opcode Jmn m pc e = finished e (run_on_fields m e (λ s a b. sets_if (some (sub m e.a_ptr pc)) (not (eqb b (offset m (pos 0)))) s) none)
+by_opcode Jmp m pc e = fine e.core (some (sub m e.a_ptr pc))
+by_opcode Spl m pc e =
+    record { core = e.core; result = Ok (record { program_counter_offset = some (sub m e.a_ptr pc); should_split = true }) }
+by_opcode Jmz m pc e = finished e (run_on_fields m e (λ s a b. sets_if (some (sub m e.a_ptr pc)) (eqb b (offset m (pos 0))) s) none)
+by_opcode Ldp m pc e = record { core = e.core; result = Panic }
+by_opcode Stp m pc e = record { core = e.core; result = Panic }
 
 -- execute: the opcode is read before the operands are evaluated
 unfoldable pub execute : ℕ → List Instruction → ℕ → Execution
-execute m core program-counter = by-opcode (get-offset core program-counter).opcode m program-counter (executor m core program-counter)
+execute m core program_counter = by_opcode (get_offset core program_counter).opcode m program_counter (executor m core program_counter)

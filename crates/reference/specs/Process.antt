@@ -25,14 +25,14 @@ insert name v [] = record { key = name; value = v } ∷ []
 insert name v (x ∷ xs) = cond (same name x.key) (record { key = x.key; value = v } ∷ xs) (x ∷ insert name v xs)
 
 -- 0 for a key that is not there
-abbrev pub or-zero : Option ℕ → ℕ
-or-zero none = 0
-or-zero (some v) = v
+abbrev pub or_zero : Option ℕ → ℕ
+or_zero none = 0
+or_zero (some v) = v
 
 pub record Queue : Type 0 where
   pub queue : List Entry
   pub processes : List Pair
-  pub next-thread-id : List Pair
+  pub next_thread_id : List Pair
 
 -- its error
 pub data Error : Type 0 where
@@ -51,32 +51,32 @@ pub data Popped : Type 0 where
 abbrev pub lowered : Option ℕ → Entry → List Entry → Queue → Popped
 lowered none e rest q = Panic
 lowered (some count) e rest q =
-    Ok e (record { queue = rest; processes = insert e.name (count - 1) q.processes; next-thread-id = q.next-thread-id })
+    Ok e (record { queue = rest; processes = insert e.name (count - 1) q.processes; next_thread_id = q.next_thread_id })
 
-abbrev pub pop-from : List Entry → Queue → Popped
-pop-from [] q = Err NoRemainingProcesses
-pop-from (e ∷ rest) q = lowered (get e.name q.processes) e rest q
+abbrev pub pop_from : List Entry → Queue → Popped
+pop_from [] q = Err NoRemainingProcesses
+pop_from (e ∷ rest) q = lowered (get e.name q.processes) e rest q
 
 abbrev pub pop : Queue → Popped
-pop q = pop-from q.queue q
+pop q = pop_from q.queue q
 
 -- push: the thread number given, or the name's next one, which rises by one
-abbrev pub thread-id : Option ℕ → List ℕ → Queue → ℕ
-thread-id (some id) name q = id
-thread-id none name q = or-zero (get name q.next-thread-id)
+abbrev pub thread_id : Option ℕ → List ℕ → Queue → ℕ
+thread_id (some id) name q = id
+thread_id none name q = or_zero (get name q.next_thread_id)
 
-abbrev pub next-id : Option ℕ → List ℕ → Queue → List Pair
-next-id (some id) name q = q.next-thread-id
-next-id none name q = insert name (or-zero (get name q.next-thread-id) + 1) q.next-thread-id
+abbrev pub next_id : Option ℕ → List ℕ → Queue → List Pair
+next_id (some id) name q = q.next_thread_id
+next_id none name q = insert name (or_zero (get name q.next_thread_id) + 1) q.next_thread_id
 
 unfoldable pub push : List ℕ → ℕ → Option ℕ → Queue → Queue
-push process-name offset thread q =
+push process_name offset thread q =
     record {
-      queue = q.queue ++ (record { name = process-name; thread = thread-id thread process-name q; offset = offset } ∷ []);
-      processes = insert process-name (or-zero (get process-name q.processes) + 1) q.processes;
-      next-thread-id = next-id thread process-name q;
+      queue = q.queue ++ (record { name = process_name; thread = thread_id thread process_name q; offset = offset } ∷ []);
+      processes = insert process_name (or_zero (get process_name q.processes) + 1) q.processes;
+      next_thread_id = next_id thread process_name q;
     }
 
 -- thread_count: nothing where it panics
-abbrev pub thread-count : List ℕ → Queue → Option ℕ
-thread-count name q = get name q.processes
+abbrev pub thread_count : List ℕ → Queue → Option ℕ
+thread_count name q = get name q.processes

@@ -11,14 +11,14 @@ use Rattle.machine.specs.Queue.{full}
 use Rattle.machine.specs.Fresh.{fresh}
 use Rattle.machine.specs.Execution.{Next, ends, goes, splits}
 use Rattle.machine.specs.Step.{popped, effect, step}
-use Rattle.machine.specs.Run.{ceilingOf}
+use Rattle.machine.specs.Run.{ceiling_of}
 use Rattle.machine.specs.Whole.{Unlimited}
 use Rattle.account.specs.Calls.{Call, Load, Step, Run, outcome}
 use Rattle.account.specs.Lists.{Listed, spread}
 use Rattle.reference.specs.Process.{NoRemainingProcesses, ExecuteDat, DivideByZero}
 use Rattle.reference.specs.Core as Rust
-use Rattle.reference.specs.Core.{Core, Answer, Ok, WarriorTooLong, Err, Panic, Returned, new, load-warrior, run}
-use Rattle.reference.specs.Same.{Same, warriorOf}
+use Rattle.reference.specs.Core.{Core, Answer, Ok, WarriorTooLong, Err, Panic, Returned, new, load_warrior, run}
+use Rattle.reference.specs.Same.{Same, warrior_of}
 
 -- place 0; an origin of 16 bits
 abbrev pub Given : Call → Type 0
@@ -27,22 +27,22 @@ Given Step = Unit {0}
 Given (Run ceiling) = Unit {0}
 
 -- the process limit is met: SPL is executed while the queue is full, so that its child is dropped. (A load at a full queue is answered 6.)
-abbrev pub isSplit : Next → Bool
-isSplit (ends x) = false
-isSplit (goes p) = false
-isSplit (splits p c) = true
+abbrev pub is_split : Next → Bool
+is_split (ends x) = false
+is_split (goes p) = false
+is_split (splits p c) = true
 
-abbrev pub meetsStep : Machine → Bool
-meetsStep m = isSplit (effect m).next && full m (popped m).name
+abbrev pub meets_step : Machine → Bool
+meets_step m = is_split (effect m).next && full m (popped m).name
 
-abbrev pub meetsPlays : ℕ → Machine → Bool
-meetsPlays zero m = false
-meetsPlays (suc k) m = meetsStep m || cond (eqb (step m).number 0) (meetsPlays k (step m).machine) false
+abbrev pub meets_plays : ℕ → Machine → Bool
+meets_plays zero m = false
+meets_plays (suc k) m = meets_step m || cond (eqb (step m).number 0) (meets_plays k (step m).machine) false
 
 abbrev pub meets : Call → Machine → Bool
 meets (Load name body origin place) m = false
-meets Step m = meetsStep m
-meets (Run ceiling) m = meetsPlays (ceilingOf ceiling - m.header.steps) m
+meets Step m = meets_step m
+meets (Run ceiling) m = meets_plays (ceiling_of ceiling - m.header.steps) m
 
 -- answers other than 1, 2, 4, 5, 6, 8, 9, 10, 13
 abbrev pub answered : ℕ → Bool
@@ -50,15 +50,15 @@ answered n = not (among (1 ∷ 2 ∷ 4 ∷ 5 ∷ 6 ∷ 8 ∷ 9 ∷ 10 ∷ 13 ∷
 
 -- a call that is answered otherwise, 4, 5, 6, 8, 9 or 10, leaves the machine as it was, in a run since its last step: the list goes on without it,
 -- and of a run the steps that it took are compared
-abbrev pub meetsBefore : Call → Machine → Bool
-meetsBefore (Load name body origin place) m = false
-meetsBefore Step m = false
-meetsBefore (Run ceiling) m = meetsPlays (outcome (Run ceiling) m).steps m
+abbrev pub meets_before : Call → Machine → Bool
+meets_before (Load name body origin place) m = false
+meets_before Step m = false
+meets_before (Run ceiling) m = meets_plays (outcome (Run ceiling) m).steps m
 
 -- a call is in the domain: one that is answered so, and one that is not
 abbrev pub InDomain : Bool → Call → Machine → Type 0
 InDomain true x m = Given x × (meets x m ≡ false)
-InDomain false x m = meetsBefore x m ≡ false
+InDomain false x m = meets_before x m ≡ false
 
 -- every call of the list is in the domain
 abbrev pub Domain : List Call → Machine → Type 0
@@ -66,14 +66,14 @@ Domain [] m = Unit {0}
 Domain (x ∷ xs) m = InDomain (answered (outcome x m).number) x m × Domain xs (outcome x m).machine
 
 -- the Rust's call
-abbrev pub cyclesOf : Ceiling → Option ℕ
-cyclesOf Unsaid = none
-cyclesOf (Steps n) = some n
+abbrev pub cycles_of : Ceiling → Option ℕ
+cycles_of Unsaid = none
+cycles_of (Steps n) = some n
 
 abbrev pub returned : Call → Core → Returned
-returned (Load name body origin place) c = load-warrior (warriorOf name body origin) c
+returned (Load name body origin place) c = load_warrior (warrior_of name body origin) c
 returned Step c = Rust.step c
-returned (Run ceiling) c = run (cyclesOf ceiling) c
+returned (Run ceiling) c = run (cycles_of ceiling) c
 
 -- without a call the Rust does nothing; of a run it does the steps that were taken
 abbrev pub without : Call → Machine → Core → Returned

@@ -12,8 +12,8 @@ use Rattle.program.specs.Program.{instructions, split}
 use Rattle.machine.specs.declared.Header.{Header}
 use Rattle.machine.specs.State.{Machine}
 use Rattle.machine.specs.Names.{names}
-use Rattle.machine.specs.Queue.{unpackedEntry, entries}
-use Rattle.reference.specs.Types.{Opcode, Add, Cmp, Dat, Div, Djn, Jmn, Jmp, Jmz, Ldp, Mod, Mov, Mul, Nop, Seq, Slt, Sne, Spl, Stp, Sub, Modifier, A, B, AB, BA, F, X, I, AddressMode, Immediate, Direct, IndirectA, IndirectB, PreDecIndirectA, PreDecIndirectB, PostIncIndirectA, PostIncIndirectB, Instruction, Warrior, default-88-to-94}
+use Rattle.machine.specs.Queue.{unpacked_entry, entries}
+use Rattle.reference.specs.Types.{Opcode, Add, Cmp, Dat, Div, Djn, Jmn, Jmp, Jmz, Ldp, Mod, Mov, Mul, Nop, Seq, Slt, Sne, Spl, Stp, Sub, Modifier, A, B, AB, BA, F, X, I, AddressMode, Immediate, Direct, IndirectA, IndirectB, PreDecIndirectA, PreDecIndirectB, PostIncIndirectA, PostIncIndirectB, Instruction, Warrior, default_88_to_94}
 use Rattle.reference.specs.Process.{Entry, Pair}
 use Rattle.reference.specs.Core.{Core}
 
@@ -30,28 +30,28 @@ modes = Immediate ∷ Direct ∷ IndirectA ∷ IndirectB ∷ PreDecIndirectA ∷
 abbrev pub opcode_of : ℕ → Opcode
 opcode_of n = get_or opcodes n Dat
 
-abbrev pub modifierOf : ℕ → Modifier
-modifierOf n = get_or modifiers n F
+abbrev pub modifier_of : ℕ → Modifier
+modifier_of n = get_or modifiers n F
 
 abbrev pub mode_of : ℕ → AddressMode
 mode_of n = get_or modes n Direct
 
 -- a cell, a word of the core, an entry of the queue
-abbrev pub instructionOf : Cell → Instruction
-instructionOf c =
+abbrev pub instruction_of : Cell → Instruction
+instruction_of c =
     record {
       opcode = opcode_of c.opcode;
-      modifier = modifierOf c.modifier;
-      a-field = record { address-mode = mode_of c.a_mode; value = pos c.a.0 };
-      b-field = record { address-mode = mode_of c.b_mode; value = pos c.b.0 };
+      modifier = modifier_of c.modifier;
+      a_field = record { address_mode = mode_of c.a_mode; value = pos c.a.0 };
+      b_field = record { address_mode = mode_of c.b_mode; value = pos c.b.0 };
     }
 
 abbrev pub word_of : ℕ → Instruction
-word_of w = instructionOf (unpacked w)
+word_of w = instruction_of (unpacked w)
 
 abbrev pub entry_of : Header → ℕ → Entry
 entry_of h w =
-    record { name = get_or (names h.names) (unpackedEntry w).name []; thread = (unpackedEntry w).thread; offset = (unpackedEntry w).place.0 }
+    record { name = get_or (names h.names) (unpacked_entry w).name []; thread = (unpacked_entry w).thread; offset = (unpacked_entry w).place.0 }
 
 -- a number for each name
 abbrev pub pairs : List (List ℕ) → List ℕ → List Pair
@@ -61,40 +61,40 @@ pairs (n ∷ ns) (v ∷ vs) = record { key = n; value = v } ∷ pairs ns vs
 
 pub record Same (m : Machine) (c : Core) : Type 0 where
   pub instructions : c.instructions ≡ map word_of m.core
-  pub queue : c.process-queue.queue ≡ map (entry_of m.header) (entries m)
-  pub processes : c.process-queue.processes ≡ pairs (names m.header.names) m.header.counts
-  pub next-thread-id : c.process-queue.next-thread-id ≡ pairs (names m.header.names) m.header.threads
-  pub steps-taken : c.steps-taken ≡ m.header.steps
+  pub queue : c.process_queue.queue ≡ map (entry_of m.header) (entries m)
+  pub processes : c.process_queue.processes ≡ pairs (names m.header.names) m.header.counts
+  pub next_thread_id : c.process_queue.next_thread_id ≡ pairs (names m.header.names) m.header.threads
+  pub steps_taken : c.steps_taken ≡ m.header.steps
 
 -- an instruction of a body: its codes by their names, its modifier or the Rust's default (F where there is none: 01 answers 4), its numbers as they are
-abbrev pub or-f : Option Modifier → Modifier
-or-f none = F
-or-f (some x) = x
+abbrev pub or_f : Option Modifier → Modifier
+or_f none = F
+or_f (some x) = x
 
-abbrev pub readModifier : Opcode → AddressMode → AddressMode → ℕ → Modifier
-readModifier o a b n = cond (eqb n unnamed) (or-f (default-88-to-94 o a b)) (modifierOf n)
+abbrev pub read_modifier : Opcode → AddressMode → AddressMode → ℕ → Modifier
+read_modifier o a b n = cond (eqb n unnamed) (or_f (default_88_to_94 o a b)) (modifier_of n)
 
-abbrev pub readInstruction : List ℕ → Instruction
-readInstruction x =
+abbrev pub read_instruction : List ℕ → Instruction
+read_instruction x =
     let o = opcode_of (Program.opcode_of x) in
-    let a = mode_of (Program.aModeOf x) in
-    let b = mode_of (Program.bModeOf x) in
+    let a = mode_of (Program.a_mode_of x) in
+    let b = mode_of (Program.b_mode_of x) in
     record {
       opcode = o;
-      modifier = readModifier o a b (get_or x 1 0);
-      a-field = record { address-mode = a; value = signed (value (part x 4 4)) };
-      b-field = record { address-mode = b; value = signed (value (part x 8 4)) };
+      modifier = read_modifier o a b (get_or x 1 0);
+      a_field = record { address_mode = a; value = signed (value (part x 4 4)) };
+      b_field = record { address_mode = b; value = signed (value (part x 8 4)) };
     }
 
 -- an empty name is given to the Rust as no name
-abbrev pub readName : List ℕ → Option (List ℕ)
-readName [] = none
-readName (b ∷ bs) = some (b ∷ bs)
+abbrev pub read_name : List ℕ → Option (List ℕ)
+read_name [] = none
+read_name (b ∷ bs) = some (b ∷ bs)
 
 -- origin 65,535 is none
-abbrev pub readOrigin : ℕ → Option ℕ
-readOrigin o = cond (eqb o 65535) none (some o)
+abbrev pub read_origin : ℕ → Option ℕ
+read_origin o = cond (eqb o 65535) none (some o)
 
-abbrev pub warriorOf : List ℕ → List ℕ → ℕ → Warrior
-warriorOf name body origin =
-    record { instructions = map readInstruction (split (instructions body) body); origin = readOrigin origin; name = readName name }
+abbrev pub warrior_of : List ℕ → List ℕ → ℕ → Warrior
+warrior_of name body origin =
+    record { instructions = map read_instruction (split (instructions body) body); origin = read_origin origin; name = read_name name }

@@ -2,18 +2,18 @@
 -- Believed. Assumes nothing.
 use Rattle.std.specs.Prelude.{Bool, not, ◌&&◌, List, ◌∷◌, ltb, length}
 use Rattle.answer.specs.Numbers.{Told}
-use Rattle.machine.specs.State.{Machine, Check, check, first, passes, verdictTold}
-use Rattle.machine.specs.Soundness.{freshChecks}
-use Rattle.machine.specs.Step.{nextChecks}
+use Rattle.machine.specs.State.{Machine, Check, check, first, passes, verdict_told}
+use Rattle.machine.specs.Soundness.{fresh_checks}
+use Rattle.machine.specs.Step.{next_checks}
 
 -- M, the memories' lengths and the limits are such as fresh takes, and the head lies in the queue memory: so no read leaves a memory
-abbrev pub inBounds : Machine → Bool
-inBounds m = passes (freshChecks m.header.rules m.core m.queue) && ltb m.header.ring.head (length m.queue)
+abbrev pub in_bounds : Machine → Bool
+in_bounds m = passes (fresh_checks m.header.rules m.core m.queue) && ltb m.header.ring.head (length m.queue)
 
 -- 9 where that is not so, then the order of a step after its header's 9
-abbrev pub refusalChecks : Machine → List Check
-refusalChecks m = check (not (inBounds m)) 9 ∷ nextChecks m
+abbrev pub refusal_checks : Machine → List Check
+refusal_checks m = check (not (in_bounds m)) 9 ∷ next_checks m
 
 -- the first that applies, 0 where none does
 unfoldable pub refused : Machine → Told
-refused m = verdictTold (first (refusalChecks m))
+refused m = verdict_told (first (refusal_checks m))

@@ -3,13 +3,13 @@
 
 ghost use Rattle.std.specs.Prelude.{◌≡◌, true, ◌||◌, ◌<◌, ◌≤◌, eqb, length, get_or};
 ghost use Rattle.answer.specs.Numbers.{told};
-ghost use Rattle.cell.specs.Cells.{soundWord};
-ghost use Rattle.machine.specs.State.{first, verdictTold};
-ghost use Rattle.machine.specs.Soundness.{validLimits};
-ghost use Rattle.machine.specs.Pointers.{siteAt};
+ghost use Rattle.cell.specs.Cells.{sound_word};
+ghost use Rattle.machine.specs.State.{first, verdict_told};
+ghost use Rattle.machine.specs.Soundness.{valid_limits};
+ghost use Rattle.machine.specs.Pointers.{site_at};
 ghost use Rattle.lent.specs.Parts.{unnamed};
-ghost use Rattle.address.specs.inner.Operands.{Fetched};
-ghost use Rattle.refusal.specs.inner.Looking.{soundBoth, left, soundSeenAt, formerSound, cellChecks};
+ghost use Rattle.address.specs.Inner.Operands.{Fetched};
+ghost use Rattle.refusal.specs.Inner.Looking.{sound_both, left, sound_seen_at, former_sound, cell_checks};
 ghost use Rattle.refusal.specs.Checks.{refused};
 
 use address::{aim, decrement, field_of, increment, word_at};
@@ -29,7 +29,7 @@ use word::{a_mode, b_mode, number, opcode, with_number};
 // Whether both cells that an operand reads where both limits are M are sound: the one at its location, of which the word is given, and the one at its pointer.
 fn look(core: &[u64], size: u32, location: Absolute, word: u64, mode: u64) -> bool
     requires { (length core.now ≡ size) × (location.0 < size) × (mode < 8) }
-    ensures { result ≡ soundBoth size core.now location.0 word mode }
+    ensures { result ≡ sound_both size core.now location.0 word mode }
 {
     if !sound(word, size) {
         return false;
@@ -47,7 +47,7 @@ fn look(core: &[u64], size: u32, location: Absolute, word: u64, mode: u64) -> bo
 
 // The word that an operand leaves at its location, of the sound one there.
 fn changed(word: u64, size: u32, mode: u64) -> u64
-    requires { (soundWord size word ≡ true) × (mode < 8) }
+    requires { (sound_word size word ≡ true) × (mode < 8) }
     ensures { result ≡ left size word mode }
 {
     if mode < PRE_DEC_INDIRECT_A {
@@ -65,7 +65,7 @@ fn changed(word: u64, size: u32, mode: u64) -> u64
 // change of a number keeps a word sound: so the cell at B's pointer is read as it is.
 fn whole_readable(core: &[u64], rules: Rules, pc: Absolute, here: u64) -> bool
     requires { Fetched rules core.now pc.0 here }
-    ensures { result ≡ formerSound (siteAt rules pc.0) core.now }
+    ensures { result ≡ former_sound (site_at rules pc.0) core.now }
 {
     let size = rules.size;
     let mode = a_mode(here);
@@ -86,8 +86,8 @@ fn whole_readable(core: &[u64], rules: Rules, pc: Absolute, here: u64) -> bool
 
 // Whether the other cells that the instruction at PC reads are sound.
 fn readable(core: &[u64], rules: Rules, pc: Absolute, here: u64) -> bool
-    requires { Fetched rules core.now pc.0 here × (validLimits rules ≡ true) }
-    ensures { result ≡ soundSeenAt (siteAt rules pc.0) core.now }
+    requires { Fetched rules core.now pc.0 here × (valid_limits rules ≡ true) }
+    ensures { result ≡ sound_seen_at (site_at rules pc.0) core.now }
 {
     if unlimited(rules) {
         return whole_readable(core, rules, pc, here);
@@ -97,8 +97,8 @@ fn readable(core: &[u64], rules: Rules, pc: Absolute, here: u64) -> bool
 
 // The refusal of the instruction at a place: 9, 10, 9.
 fn cell_refusal(core: &[u64], rules: Rules, pc: Absolute) -> Answer
-    requires { (rules.size ≤ 46341) × (length core.now ≡ rules.size) × (pc.0 < rules.size) × (validLimits rules ≡ true) }
-    ensures { told result ≡ verdictTold (first (cellChecks (siteAt rules pc.0) core.now)) }
+    requires { (rules.size ≤ 46341) × (length core.now ≡ rules.size) × (pc.0 < rules.size) × (valid_limits rules ≡ true) }
+    ensures { told result ≡ verdict_told (first (cell_checks (site_at rules pc.0) core.now)) }
 {
     let at = pc.0 as usize;
     let here = core[at];

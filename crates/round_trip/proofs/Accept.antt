@@ -12,16 +12,16 @@ use borrow.Author.Tests.{leb-true, leb-false, ltb-false, le-leb, lt-leb, le-ltb,
 use Rattle.answer.specs.Numbers.{Told, gives}
 use Rattle.laws.proofs.Tests.{both, neither}
 use Rattle.encoding.specs.Bytes.{part}
-use Rattle.program.specs.Program.{instructions, lowestFault}
-use Rattle.metadata.specs.Metadata.{validByte, validName}
+use Rattle.program.specs.Program.{instructions, lowest_fault}
+use Rattle.metadata.specs.Metadata.{valid_byte, valid_name}
 use Rattle.program.proofs.Program.{lawful-whole}
 use Rattle.machine.specs.State.{Check, Verdict, accepted, refusal, first}
-use Rattle.machine.specs.Soundness.{validSize}
+use Rattle.machine.specs.Soundness.{valid_size}
 use Rattle.machine.proofs.Checks.{passed as rows-passed, Numbers, number_of}
 use Rattle.match_format.specs.declared.Fault.TheVariants.{Nowhere}
 use Rattle.match_format.specs.Format.{Bytes, number, Warrior, file, Fits, AllFit}
-use Rattle.match_format.specs.Faults.{linesFault}
-use Rattle.match_file.specs.Reading.{warriorsAt}
+use Rattle.match_format.specs.Faults.{lines_fault}
+use Rattle.match_file.specs.Reading.{warriors_at}
 use Rattle.match_format.proofs.Parts.{length_part}
 use Rattle.match_format.proofs.Numbers.{number_lt}
 use Rattle.match_format.proofs.Chains.{all_right}
@@ -49,8 +49,8 @@ pub record Passed (size : ℕ) (w : Warrior) : Type 0 where
   pub low : 1 ≤ size
   pub high : size ≤ 46341
   pub count : instructions w.body ≤ size
-  pub codes : ltb (lowestFault w.body) (instructions w.body) ≡ false
-  pub name : validName w.name ≡ true
+  pub codes : ltb (lowest_fault w.body) (instructions w.body) ≡ false
+  pub name : valid_name w.name ≡ true
   pub place : w.place < size
 
 module _ (size : ℕ) (ws : List Warrior) (w : Warrior) (room : ℕ) where
@@ -61,14 +61,14 @@ module _ (size : ℕ) (ws : List Warrior) (w : Warrior) (room : ℕ) where
     pub passed : Passed size w
     passed =
         let p = rows-passed (checks size ws w room) e in
-        let m = both (leb 1 size) (leb size 46341) (not-false (validSize size) p.0) in
-        let n = neither (not (validName w.name)) (leb size w.place) p.1.1.1.0 in
+        let m = both (leb 1 size) (leb size 46341) (not-false (valid_size size) p.0) in
+        let n = neither (not (valid_name w.name)) (leb size w.place) p.1.1.1.0 in
         record {
           low = leb-true 1 size m.0;
           high = leb-true size 46341 m.1;
           count = ltb-false size (instructions w.body) p.1.0;
           codes = p.1.1.0;
-          name = not-false (validName w.name) n.0;
+          name = not-false (valid_name w.name) n.0;
           place = leb-false size w.place n.1;
         }
 
@@ -102,7 +102,7 @@ fits-passed size w k o =
     }
 
 -- the warriors of a file that reads fit a file
-pub fits_read : (f : List ℕ) (p s n : ℕ) → Bytes f → linesFault f p s n ≡ Nowhere → AllFit (warriorsAt f p n)
+pub fits_read : (f : List ℕ) (p s n : ℕ) → Bytes f → lines_fault f p s n ≡ Nowhere → AllFit (warriors_at f p n)
 fits_read f p s zero b e = tt
 fits_read f p s (suc n) b e =
     let o = first-line f p s n e in
@@ -113,7 +113,7 @@ fits_read f p s (suc n) b e =
     let h : z ≤ 32 = o.short in
     let l : length (part f (p + 1) z) ≤ 32 = rw (length_part f (p + 1) z (omega arith)) h in (
       record {
-        name = rw (le-leb (length (part f (p + 1) z)) 32 l) (all_right validByte (p + 1) (part f (p + 1) z) o.name);
+        name = rw (le-leb (length (part f (p + 1) z)) 32 l) (all_right valid_byte (p + 1) (part f (p + 1) z) o.name);
         body = length-body f p k ∙ ap (λ (x : ℕ). 12 * x) (sym (count-is f p k));
         count = rw (count-is f p k) (number_lt f (p + 37) 2 b (omega arith));
         origin = number_lt f (p + 39) 2 b (omega arith);

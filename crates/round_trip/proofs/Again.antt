@@ -10,8 +10,8 @@ use lib.Seq.{drop-drop, drop-cons}
 use Rattle.encoding.specs.Bytes.{part, spelled}
 use Rattle.match_format.specs.declared.Fault.TheVariants.{Nowhere}
 use Rattle.match_format.specs.Format.{Bytes, number, line, lines, bodies, file}
-use Rattle.match_format.specs.Faults.{within, linesFault, fault}
-use Rattle.match_file.specs.Reading.{sizeIn, warriorsAt, warriorsOf}
+use Rattle.match_format.specs.Faults.{within, lines_fault, fault}
+use Rattle.match_file.specs.Reading.{size_in, warriors_at, warriors_of}
 use Rattle.match_format.proofs.Parts.{length_part, part-add, part-first}
 use Rattle.match_format.proofs.Numbers.{spelled-number}
 use Rattle.match_format.proofs.Chains.{all_right, all-zero}
@@ -53,7 +53,7 @@ module _ (f : List ℕ) (b : Bytes f) where
       ap₂ (λ (x : ℕ) (y : List ℕ). x ∷ y) name (from-name ∙ ap (part f (p + 1)) e) ∙ sym (part-first f p 42 (omega arith))
 
   -- the lines
-  lines-again : (p s n : ℕ) → linesFault f p s n ≡ Nowhere → lines s (warriorsAt f p n) ≡ part f p (43 * n)
+  lines-again : (p s n : ℕ) → lines_fault f p s n ≡ Nowhere → lines s (warriors_at f p n) ≡ part f p (43 * n)
   lines-again p s zero e = refl
   lines-again p s (suc n) e =
       let o = first-line f p s n e in
@@ -62,19 +62,19 @@ module _ (f : List ℕ) (b : Bytes f) where
       let bd : List ℕ = part f (number f (p + 33) 4) (12 * number f (p + 37) 2) in
       let nm : List ℕ = part f (p + 1) (get_or f p 0) in
       let z : 43 + 43 * n ≡ 43 * suc n = omega arith in
-      ap₂ (λ (x y : ℕ). line nm s x (number f (p + 39) 2) (number f (p + 41) 2) ++ lines (s + y) (warriorsAt f (p + 43) n)) (count-is f p k) (length-body f p k)
+      ap₂ (λ (x y : ℕ). line nm s x (number f (p + 39) 2) (number f (p + 41) 2) ++ lines (s + y) (warriors_at f (p + 43) n)) (count-is f p k) (length-body f p k)
       ∙ ap₂ (λ (x y : List ℕ). x ++ y) (line-again p s o) (lines-again (p + 43) m n (later-lines f p s n e))
       ∙ sym (part-add f p 43 (43 * n))
       ∙ ap (λ (x : ℕ). part f p x) z
 
-  pub again : fault f ≡ Nowhere → file (sizeIn f) (warriorsOf f) ≡ f
+  pub again : fault f ≡ Nowhere → file (size_in f) (warriors_of f) ≡ f
   unfolding file
   again e =
       let h = head_ok f e in
       let n : ℕ = get_or f 0 0 in
       let l : 4 ≤ length f = h.fits in
-      let q : length (warriorsAt f 4 n) ≡ n = length-warriors f 4 n in
-      ap (λ (x : ℕ). x ∷ (spelled 2 (sizeIn f) ++ (0 ∷ (lines (4 + 43 * x) (warriorsAt f 4 n) ++ bodies (warriorsAt f 4 n))))) q
+      let q : length (warriors_at f 4 n) ≡ n = length-warriors f 4 n in
+      ap (λ (x : ℕ). x ∷ (spelled 2 (size_in f) ++ (0 ∷ (lines (4 + 43 * x) (warriors_at f 4 n) ++ bodies (warriors_at f 4 n))))) q
       ∙ ap₂ (λ (x y : List ℕ). n ∷ (x ++ (0 ∷ y))) (spelled-number f 1 2 b (omega arith))
       (ap₂ (λ (x y : List ℕ). x ++ y) (lines-again 4 (4 + 43 * n) n h.lines) (bodies-are f 4 (4 + 43 * n) n h.lines) ∙ sym (from 4 (43 * n)))
       ∙ ap (λ (x : ℕ). n ∷ (part f 1 2 ++ (x ∷ drop 4 f))) (sym h.null)

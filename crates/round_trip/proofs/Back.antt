@@ -9,13 +9,13 @@ use lib.ListN.{length, get_or, take, drop, replicate, length-append, length-repl
 use lib.Seq.{drop-drop, get_or-drop, take_at, drop_at, drop-append-add}
 use Rattle.encoding.specs.Bytes.{part, value, spelled}
 use Rattle.program.specs.Program.{instructions}
-use Rattle.metadata.specs.Metadata.{validByte}
+use Rattle.metadata.specs.Metadata.{valid_byte}
 use Rattle.metadata.proofs.Names.{valid-name}
 use Rattle.match_format.specs.declared.Fault.{Fault}
 use Rattle.match_format.specs.declared.Fault.TheVariants.{Nowhere}
 use Rattle.match_format.specs.Format.{number, Warrior, line, lines, bodies, file, Fits, AllFit}
-use Rattle.match_format.specs.Faults.{◌else◌, within, linesFault, fault}
-use Rattle.match_file.specs.Reading.{sizeIn, warriorAt, warriorsAt, warriorsOf}
+use Rattle.match_format.specs.Faults.{◌else◌, within, lines_fault, fault}
+use Rattle.match_file.specs.Reading.{size_in, warrior_at, warriors_at, warriors_of}
 use Rattle.match_format.proofs.Parts.{part-from, part-past}
 use Rattle.match_format.proofs.Numbers.{value-spelled}
 use Rattle.match_format.proofs.Chains.{right-all, zero-all}
@@ -106,13 +106,13 @@ module _ (f : List ℕ) (p s : ℕ) (w : Warrior) (r : List ℕ) (t : Fits w) (b
       record {
         fits = g.fits;
         short = rw g.size short;
-        name = rw (g.size, g.name) (right-all validByte (p + 1) w.name (valid-name w.name t.name).1);
+        name = rw (g.size, g.name) (right-all valid_byte (p + 1) w.name (valid-name w.name t.name).1);
         padding = rw (g.size, g.pad) (right-all (within 0 0) (p + 1 + length w.name) (replicate (32 - length w.name) 0) (zero-all (32 - length w.name)));
         start = g.start;
       }
 
   -- the body is the part of the file that its line says
-  pub warrior-back : (rest : List ℕ) → drop s f ≡ w.body ++ rest → warriorAt f p ≡ w
+  pub warrior-back : (rest : List ℕ) → drop s f ≡ w.body ++ rest → warrior_at f p ≡ w
   warrior-back rest d =
       let g = has in
       let n : part f (p + 1) (get_or f p 0) ≡ w.name = ap (λ (x : ℕ). part f (p + 1) x) g.size ∙ g.name in
@@ -124,7 +124,7 @@ module _ (f : List ℕ) (p s : ℕ) (w : Warrior) (r : List ℕ) (t : Fits w) (b
 -- the lines, one after the other
 module _ (f : List ℕ) where
   lines-back : (p s : ℕ) (ws : List Warrior) (r : List ℕ) → AllFit ws → drop p f ≡ lines s ws ++ r → drop s f ≡ bodies ws → s ≤ length f → s + 786420 * length ws < 2 ^ 32
-      → (linesFault f p s (length ws) ≡ Nowhere) × (warriorsAt f p (length ws) ≡ ws)
+      → (lines_fault f p s (length ws) ≡ Nowhere) × (warriors_at f p (length ws) ≡ ws)
   lines-back p s [] r t e d h b =
       let z : length f - s ≡ 0 = sym (length-drop s f) ∙ ap length d in
       (good-end f p s 0 0 (omega arith) h (omega arith), refl)
@@ -141,7 +141,7 @@ module _ (f : List ℕ) where
       let c : length w.body ≤ 786420 = omega (arith, t.0.body, t.0.count) in
       let u = lines-back (p + 43) m ws r t.1 e2 d2 (omega arith) (omega arith) in (
         lines_more f p s (length ws)
-            ∙ ap₂ (λ (y : Fault) (n : ℕ). y else linesFault f (p + 43) n (length ws)) (ok-line f p s (line-back f p s w x t.0 (omega arith) e1)) k
+            ∙ ap₂ (λ (y : Fault) (n : ℕ). y else lines_fault f (p + 43) n (length ws)) (ok-line f p s (line-back f p s w x t.0 (omega arith) e1)) k
             ∙ u.0,
         ap₂ (λ (y : Warrior) (ys : List Warrior). y ∷ ys) (warrior-back f p s w x t.0 (omega arith) e1 (bodies ws) d) u.1,
       )
@@ -149,8 +149,8 @@ module _ (f : List ℕ) where
 -- f reads as M and these warriors
 pub record As (f : List ℕ) (m : ℕ) (ws : List Warrior) : Type 0 where
   pub sound : fault f ≡ Nowhere
-  pub size : sizeIn f ≡ m
-  pub warriors : warriorsOf f ≡ ws
+  pub size : size_in f ≡ m
+  pub warriors : warriors_of f ≡ ws
 
 module _ (size : ℕ) (ws : List Warrior) (a : size < 65536) (low : 1 ≤ length ws) (high : length ws ≤ 16) (t : AllFit ws) where
   pub file-back : As (file size ws) size ws

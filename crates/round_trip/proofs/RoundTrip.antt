@@ -11,13 +11,13 @@ use Rattle.program.specs.Program.{instructions}
 use Rattle.machine.specs.State.{first}
 use Rattle.match_format.specs.Format.{Warrior, bodies, file, AllFit}
 use Rattle.match_format.specs.Faults.{fault}
-use Rattle.match_file.specs.Reading.{sizeIn, warriorsIn, warriorsOf, warriorOf}
+use Rattle.match_file.specs.Reading.{size_in, warriors_in, warriors_of, warrior_of}
 use Rattle.match_format.proofs.Numbers.{number_lt}
 use Rattle.match_format.proofs.Whole.{head_ok, line_at}
 use Rattle.match_format.proofs.Format.{length-file, bodies-append}
 use Rattle.match_file.proofs.Warriors.{length-warriors, warrior-at, count-is}
 use Rattle.match_write.specs.Writing.{checks}
-use Rattle.round_trip.specs.Calls.{nobody, Accepts, AllAccepted, addAll, write_all, Reads}
+use Rattle.round_trip.specs.Calls.{nobody, Accepts, AllAccepted, add_all, write_all, Reads}
 use Rattle.round_trip.specs.RoundTrip.{Exact, ReadsBack, WritesAgain, FirstReads, AddedReads, WritesBack}
 use Rattle.round_trip.proofs.Back.{As, all_short, file-back}
 use Rattle.round_trip.proofs.Again.{again}
@@ -31,18 +31,18 @@ reads {f} {size} {ws} a =
       sound = a.sound;
       warriors = how-many;
       core = a.size;
-      line = λ k h. rw (a.sound, lt-ltb k (warriorsIn f) (omega (arith, how-many)));
+      line = λ k h. rw (a.sound, lt-ltb k (warriors_in f) (omega (arith, how-many)));
       warrior = each;
       count = λ k h.
-          let k' = line_at f 4 (4 + 43 * warriorsIn f) (warriorsIn f) k (head_ok f a.sound).lines (omega (arith, how-many)) in
+          let k' = line_at f 4 (4 + 43 * warriors_in f) (warriors_in f) k (head_ok f a.sound).lines (omega (arith, how-many)) in
           sym (count-is f (4 + 43 * k) k') ∙ ap (λ (w : Warrior). instructions w.body) (each k h);
     }
   where
-    how-many : warriorsIn f ≡ length ws
-    how-many = sym (length-warriors f 4 (warriorsIn f)) ∙ ap length a.warriors
+    how-many : warriors_in f ≡ length ws
+    how-many = sym (length-warriors f 4 (warriors_in f)) ∙ ap length a.warriors
 
-    each : (k : ℕ) → k < length ws → warriorOf f k ≡ get_or ws k nobody
-    each k h = sym (warrior-at f 4 (warriorsIn f) k nobody (omega (arith, how-many))) ∙ ap (λ (xs : List Warrior). get_or xs k nobody) a.warriors
+    each : (k : ℕ) → k < length ws → warrior_of f k ≡ get_or ws k nobody
+    each k h = sym (warrior-at f 4 (warriors_in f) k nobody (omega (arith, how-many))) ∙ ap (λ (xs : List Warrior). get_or xs k nobody) a.warriors
 
 pub reads-back : ReadsBack
 reads-back size ws a low high t = reads (file-back size ws a low high t)
@@ -54,14 +54,14 @@ pub exact : Exact
 exact f b = (
   λ e.
       let h = head_ok f e in
-      let n = length-warriors f 4 (warriorsIn f) in
+      let n = length-warriors f 4 (warriors_in f) in
       record {
-        size = sizeIn f;
-        warriors = warriorsOf f;
+        size = size_in f;
+        warriors = warriors_of f;
         small = number_lt f 1 2 b (omega (arith, h.fits));
         some = omega (arith, h.low);
         few = omega (arith, h.high);
-        fit = fits_read f 4 (4 + 43 * warriorsIn f) (warriorsIn f) b h.lines;
+        fit = fits_read f 4 (4 + 43 * warriors_in f) (warriors_in f) b h.lines;
         is = sym (again f b e);
       },
   λ k. ap fault k.is ∙ (file-back k.size k.warriors k.small k.some k.few k.fit).sound,
@@ -78,17 +78,17 @@ fit_append : (vs ws : List Warrior) → AllFit vs → AllFit ws → AllFit (vs +
 fit_append [] ws t u = u
 fit_append (v ∷ vs) ws t u = (t.0, fit_append vs ws t.1 u)
 
-pub added-reads : AddedReads
-added-reads f w output b o d =
+pub added_reads : AddedReads
+added_reads f w output b o d =
     let a = added-accepted f w output d in
     let h = head_ok f a.0 in
-    let k = passed (sizeIn f) (warriorsOf f) w (length output) a.1 in
-    let l = room_for (sizeIn f) (warriorsOf f) w (length output) a.1 in
-    let n = length-append (warriorsOf f) (w ∷ []) in
-    let t = fits_read f 4 (4 + 43 * warriorsIn f) (warriorsIn f) b h.lines in
-    let r = reads-back (sizeIn f) (warriorsOf f ++ (w ∷ [])) (omega (arith, k.high)) (omega arith) (omega (arith, l.0))
-    (fit_append (warriorsOf f) (w ∷ []) t (fits-passed (sizeIn f) w k o, tt)) in
-    subst (λ (g : List ℕ). Reads g (sizeIn f) (warriorsOf f ++ (w ∷ []))) (sym (added-made f w output a.0 a.1)) r
+    let k = passed (size_in f) (warriors_of f) w (length output) a.1 in
+    let l = room_for (size_in f) (warriors_of f) w (length output) a.1 in
+    let n = length-append (warriors_of f) (w ∷ []) in
+    let t = fits_read f 4 (4 + 43 * warriors_in f) (warriors_in f) b h.lines in
+    let r = reads-back (size_in f) (warriors_of f ++ (w ∷ [])) (omega (arith, k.high)) (omega arith) (omega (arith, l.0))
+    (fit_append (warriors_of f) (w ∷ []) t (fits-passed (size_in f) w k o, tt)) in
+    subst (λ (g : List ℕ). Reads g (size_in f) (warriors_of f ++ (w ∷ []))) (sym (added-made f w output a.0 a.1)) r
 
 -- a file of fewer warriors is no longer
 prefix-fits : (size : ℕ) (vs ws : List Warrior) → AllFit vs → AllFit ws → length (file size vs) ≤ length (file size (vs ++ ws))
@@ -105,7 +105,7 @@ accepted-passed size w a = passed size [] w (length a.0) (first-accepted size w 
 
 module _ (size : ℕ) (outputs : ℕ → List ℕ) (m : size < 65536) where
   add-all : (i : ℕ) (vs ws : List Warrior) → 1 ≤ length vs → length (vs ++ ws) ≤ 16 → AllFit vs → AllFit ws → AllAccepted size ws
-      → ((j : ℕ) → length (file size (vs ++ ws)) ≤ length (outputs j)) → addAll outputs i (file size vs) ws ≡ file size (vs ++ ws)
+      → ((j : ℕ) → length (file size (vs ++ ws)) ≤ length (outputs j)) → add_all outputs i (file size vs) ws ≡ file size (vs ++ ws)
   add-all i vs [] h l t u a r = ap (file size) (sym (append-nil vs))
   add-all i vs (w ∷ ws) h l t u a r =
       let f : List ℕ = file size vs in
@@ -118,7 +118,7 @@ module _ (size : ℕ) (outputs : ℕ → List ℕ) (m : size < 65536) where
       let d = accept size vs w (length (outputs i)) (accepted-passed size w a.0) (omega (arith, length-append vs (w ∷ ws))) room in
       let e = ap₂ (λ (x : ℕ) (ys : List Warrior). first (checks x ys w (length (outputs i)))) g.size g.warriors ∙ d in
       let q = added-made f w (outputs i) g.sound e ∙ ap₂ (λ (x : ℕ) (ys : List Warrior). file x (ys ++ (w ∷ []))) g.size g.warriors in
-      ap (λ (x : List ℕ). addAll outputs (suc i) x ws) q
+      ap (λ (x : List ℕ). add_all outputs (suc i) x ws) q
       ∙ add-all (suc i) more ws (omega (arith, length-append vs (w ∷ []))) (omega (arith, ap length s)) t' u.1 a.1 long
       ∙ ap (file size) s
 
@@ -128,14 +128,14 @@ module _ (size : ℕ) (outputs : ℕ → List ℕ) (m : size < 65536) where
   write-all (w ∷ ws) h l t a r =
       let room : length (file size (w ∷ [])) ≤ length (outputs 0) = le_trans (prefix-fits size (w ∷ []) ws (t.0, tt) t.1) (r 0) in
       let d = accept size [] w (length (outputs 0)) (accepted-passed size w a.0) (omega arith) room in
-      ap (λ (x : List ℕ). addAll outputs 1 x ws) (first_made size w (outputs 0) d) ∙ add-all 1 (w ∷ []) ws (omega arith) l (t.0, tt) t.1 a.1 r
+      ap (λ (x : List ℕ). add_all outputs 1 x ws) (first_made size w (outputs 0) d) ∙ add-all 1 (w ∷ []) ws (omega arith) l (t.0, tt) t.1 a.1 r
 
-pub writes-back : WritesBack
-writes-back f outputs b e a r =
+pub writes_back : WritesBack
+writes_back f outputs b e a r =
     let h = head_ok f e in
-    let w : file (sizeIn f) (warriorsOf f) ≡ f = again f b e in
-    let n = length-warriors f 4 (warriorsIn f) in
-    let t = fits_read f 4 (4 + 43 * warriorsIn f) (warriorsIn f) b h.lines in
-    write-all (sizeIn f) outputs (number_lt f 1 2 b (omega (arith, h.fits))) (warriorsOf f) (omega (arith, h.low)) (omega (arith, h.high)) t a
+    let w : file (size_in f) (warriors_of f) ≡ f = again f b e in
+    let n = length-warriors f 4 (warriors_in f) in
+    let t = fits_read f 4 (4 + 43 * warriors_in f) (warriors_in f) b h.lines in
+    write-all (size_in f) outputs (number_lt f 1 2 b (omega (arith, h.fits))) (warriors_of f) (omega (arith, h.low)) (omega (arith, h.high)) t a
     (λ j. subst (λ (g : List ℕ). length g ≤ length (outputs j)) (sym w) (r j))
     ∙ w

@@ -5,10 +5,10 @@ use Rattle.answer.specs.Numbers.{gives}
 use Rattle.program.specs.Program.{instructions}
 use Rattle.match_format.specs.declared.Fault.TheVariants.{Nowhere}
 use Rattle.match_format.specs.Format.{Warrior, warrior}
-use Rattle.match_format.specs.Faults.{fault, faultAt}
-use Rattle.match_file.specs.Reading.{warriorsIn, sizeIn, count_of, warriorOf}
+use Rattle.match_format.specs.Faults.{fault, fault_at}
+use Rattle.match_file.specs.Reading.{warriors_in, size_in, count_of, warrior_of}
 use Rattle.write_checks.specs.Refusal.{Written}
-use Rattle.match_write.specs.Writing.{writeFirst, writeAdded}
+use Rattle.match_write.specs.Writing.{write_first, write_added}
 
 -- the file that a call made: as many bytes of the output as it wrote
 abbrev pub made : Written → List ℕ
@@ -20,21 +20,21 @@ Done g = g.told ≡ gives 0 0
 
 -- the writer accepts M and a warrior, in some output
 abbrev pub Accepts : ℕ → Warrior → Type 0
-Accepts size w = (output : List ℕ) × Done (writeFirst size w output)
+Accepts size w = (output : List ℕ) × Done (write_first size w output)
 
 abbrev pub AllAccepted : ℕ → List Warrior → Type 0
 AllAccepted size [] = Unit {0}
 AllAccepted size (w ∷ ws) = Accepts size w × AllAccepted size ws
 
 -- warriors added to a file, a call for each; call i is lent the output of that number
-abbrev pub addAll : (ℕ → List ℕ) → ℕ → List ℕ → List Warrior → List ℕ
-addAll outputs i f [] = f
-addAll outputs i f (w ∷ ws) = addAll outputs (suc i) (made (writeAdded f w (outputs i))) ws
+abbrev pub add_all : (ℕ → List ℕ) → ℕ → List ℕ → List Warrior → List ℕ
+add_all outputs i f [] = f
+add_all outputs i f (w ∷ ws) = add_all outputs (suc i) (made (write_added f w (outputs i))) ws
 
 -- M and warriors written by one call with the first warrior, and one more for each other
 abbrev pub write_all : (ℕ → List ℕ) → ℕ → List Warrior → List ℕ
 write_all outputs size [] = []
-write_all outputs size (w ∷ ws) = addAll outputs 1 (made (writeFirst size w (outputs 0))) ws
+write_all outputs size (w ∷ ws) = add_all outputs 1 (made (write_first size w (outputs 0))) ws
 
 -- read past the last warrior
 abbrev pub nobody : Warrior
@@ -43,8 +43,8 @@ nobody = warrior [] [] 0 0
 -- every call of the reader gives what was written: how many warriors, M, and of each warrior name, body, origin, place and count
 pub record Reads (f : List ℕ) (size : ℕ) (ws : List Warrior) : Type 0 where
   pub sound : fault f ≡ Nowhere
-  pub warriors : warriorsIn f ≡ length ws
-  pub core : sizeIn f ≡ size
-  pub line : (k : ℕ) → k < length ws → faultAt f k ≡ Nowhere
-  pub warrior : (k : ℕ) → k < length ws → warriorOf f k ≡ get_or ws k nobody
+  pub warriors : warriors_in f ≡ length ws
+  pub core : size_in f ≡ size
+  pub line : (k : ℕ) → k < length ws → fault_at f k ≡ Nowhere
+  pub warrior : (k : ℕ) → k < length ws → warrior_of f k ≡ get_or ws k nobody
   pub count : (k : ℕ) → k < length ws → count_of f k ≡ instructions (get_or ws k nobody).body

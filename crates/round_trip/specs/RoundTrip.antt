@@ -4,8 +4,8 @@ use Rattle.std.specs.Prelude.{ℕ, ◌≤◌, ◌<◌, ◌≡◌, List, [], ◌�
 use Rattle.match_format.specs.declared.Fault.TheVariants.{Nowhere}
 use Rattle.match_format.specs.Format.{Bytes, Warrior, file, AllFit, IsFile}
 use Rattle.match_format.specs.Faults.{fault}
-use Rattle.match_file.specs.Reading.{sizeIn, warriorsOf}
-use Rattle.match_write.specs.Writing.{writeFirst, writeAdded}
+use Rattle.match_file.specs.Reading.{size_in, warriors_of}
+use Rattle.match_write.specs.Writing.{write_first, write_added}
 use Rattle.round_trip.specs.Calls.{made, Done, AllAccepted, write_all, Reads}
 
 -- the reader accepts exactly the files of the format
@@ -18,19 +18,19 @@ ReadsBack = (size : ℕ) (ws : List Warrior) → size < 65536 → 1 ≤ length w
 
 -- a file that reads is the file of what it reads as, byte for byte
 abbrev pub WritesAgain : Type 0
-WritesAgain = (f : List ℕ) → Bytes f → fault f ≡ Nowhere → file (sizeIn f) (warriorsOf f) ≡ f
+WritesAgain = (f : List ℕ) → Bytes f → fault f ≡ Nowhere → file (size_in f) (warriors_of f) ≡ f
 
 -- what a call made from M and one warrior reads back; an origin has 16 bits
 abbrev pub FirstReads : Type 0
-FirstReads = (size : ℕ) (w : Warrior) (output : List ℕ) → w.origin < 65536 → Done (writeFirst size w output)
-    → Reads (made (writeFirst size w output)) size (w ∷ [])
+FirstReads = (size : ℕ) (w : Warrior) (output : List ℕ) → w.origin < 65536 → Done (write_first size w output)
+    → Reads (made (write_first size w output)) size (w ∷ [])
 
 -- what a call made by adding a warrior reads back: the earlier warriors as they were, and the new one
 abbrev pub AddedReads : Type 0
-AddedReads = (f : List ℕ) (w : Warrior) (output : List ℕ) → Bytes f → w.origin < 65536 → Done (writeAdded f w output)
-    → Reads (made (writeAdded f w output)) (sizeIn f) (warriorsOf f ++ (w ∷ []))
+AddedReads = (f : List ℕ) (w : Warrior) (output : List ℕ) → Bytes f → w.origin < 65536 → Done (write_added f w output)
+    → Reads (made (write_added f w output)) (size_in f) (warriors_of f ++ (w ∷ []))
 
 -- a file whose M and warriors the writer accepts, written again warrior by warrior into outputs that are long enough, is the same bytes
 abbrev pub WritesBack : Type 0
-WritesBack = (f : List ℕ) (outputs : ℕ → List ℕ) → Bytes f → fault f ≡ Nowhere → AllAccepted (sizeIn f) (warriorsOf f)
-    → ((i : ℕ) → length f ≤ length (outputs i)) → write_all outputs (sizeIn f) (warriorsOf f) ≡ f
+WritesBack = (f : List ℕ) (outputs : ℕ → List ℕ) → Bytes f → fault f ≡ Nowhere → AllAccepted (size_in f) (warriors_of f)
+    → ((i : ℕ) → length f ≤ length (outputs i)) → write_all outputs (size_in f) (warriors_of f) ≡ f

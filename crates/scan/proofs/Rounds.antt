@@ -9,14 +9,14 @@ use lib.Dec.{eqb}
 use lib.ListN.{length, get_or, set}
 use lib.Seq.{get_or-set_same, get_or-set_other}
 use borrow.Author.Tests.{eqb-true, eqb-false, eq-eqb}
-use Rattle.laws.specs.Lists.{oneIf, every, tally}
+use Rattle.laws.specs.Lists.{one_if, every, tally}
 use Rattle.laws.proofs.Lists.{fall, done}
 use Rattle.offset.specs.Offset.{ahead}
-use Rattle.machine.specs.Queue.{unpackedEntry, slots}
+use Rattle.machine.specs.Queue.{unpacked_entry, slots}
 
 -- an entry of the name at an index
 abbrev pub named : ℕ → ℕ → Bool
-named k w = eqb (unpackedEntry w).name k
+named k w = eqb (unpacked_entry w).name k
 
 -- one more than a number below one of 32 bits
 pub more-fits : {x n : ℕ} → x < n → n < 4294967296 → x + 1 < 4294967296
@@ -55,16 +55,16 @@ module _ (q : List ℕ) (head n : ℕ) where
     pub tally-ends : n ≤ i → (k : ℕ) → get_or t k 0 ≡ tally (named k) (slots q head n)
     tally-ends h k = let e = ap (tally (named k)) (left-none s i h) in let f = so_far k in omega arith
 
-    module _ (h : i < n) (who : ℕ) (e : who ≡ (unpackedEntry (get_or q s 0)).name) where
-      after : (k : ℕ) → get_or t k 0 + (oneIf (eqb who k) + tally (named k) (left (ahead (length q) s 1) (i + 1))) ≡ tally (named k) (slots q head n)
+    module _ (h : i < n) (who : ℕ) (e : who ≡ (unpacked_entry (get_or q s 0)).name) where
+      after : (k : ℕ) → get_or t k 0 + (one_if (eqb who k) + tally (named k) (left (ahead (length q) s 1) (i + 1))) ≡ tally (named k) (slots q head n)
       after k =
-          ap (λ (j : ℕ). get_or t k 0 + (oneIf (eqb j k) + tally (named k) (left (ahead (length q) s 1) (i + 1)))) e
+          ap (λ (j : ℕ). get_or t k 0 + (one_if (eqb j k) + tally (named k) (left (ahead (length q) s 1) (i + 1)))) e
           ∙ sym (ap (λ (l : List ℕ). get_or t k 0 + tally (named k) l) (left-first s i h)) ∙ so_far k
 
       pub tally-goes : who < length t → TallyLeft (set t who (get_or t who 0 + 1)) (ahead (length q) s 1) (i + 1)
       tally-goes b k = go (eqb who k) refl (after k)
         where
-          go : (x : Bool) → eqb who k ≡ x → get_or t k 0 + (oneIf (eqb who k) + tally (named k) (left (ahead (length q) s 1) (i + 1))) ≡ tally (named k) (slots q head n)
+          go : (x : Bool) → eqb who k ≡ x → get_or t k 0 + (one_if (eqb who k) + tally (named k) (left (ahead (length q) s 1) (i + 1))) ≡ tally (named k) (slots q head n)
               → get_or (set t who (get_or t who 0 + 1)) k 0 + tally (named k) (left (ahead (length q) s 1) (i + 1)) ≡ tally (named k) (slots q head n)
           go true f r =
               let is : get_or (set t who (get_or t who 0 + 1)) k 0 ≡ get_or t k 0 + 1
@@ -83,7 +83,7 @@ module _ (q : List ℕ) (head n : ℕ) where
       tally-few p s zero = omega arith
       tally-few p s (suc j) = go (p (get_or q s 0)) (tally-few p (ahead (length q) s 1) j)
         where
-          go : (b : Bool) {x : ℕ} → x ≤ j → oneIf b + x ≤ suc j
+          go : (b : Bool) {x : ℕ} → x ≤ j → one_if b + x ≤ suc j
           go true r = omega arith
           go false r = omega arith
 

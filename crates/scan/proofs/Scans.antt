@@ -12,10 +12,10 @@ use Rattle.machine.specs.declared.Ring.{Ring}
 use Rattle.machine.specs.declared.Rules.{Rules}
 use Rattle.machine.specs.State.{Machine}
 use Rattle.machine.specs.Queue.{slots, entries}
-use Rattle.machine.specs.Soundness.{soundEntry}
-use Rattle.lent.specs.Parts.{names_of, headerOf, noRing, unnamed}
+use Rattle.machine.specs.Soundness.{sound_entry}
+use Rattle.lent.specs.Parts.{names_of, header_of, no_ring, unnamed}
 use Rattle.scan.proofs.Rounds.{named}
-use Rattle.scan.specs.Scanning.{in_range, soundCells, soundEntries, entries_at, tallied, lasting, lastingAll, scanned}
+use Rattle.scan.specs.Scanning.{in_range, sound_cells, sound_entries, entries_at, tallied, lasting, lasting_all, scanned}
 
 -- the counts, where these numbers are the tallies
 pub counts-tallied : (m : Machine) (t : List ℕ) → ((k : ℕ) → get_or t k 0 ≡ entries_at m k)
@@ -25,9 +25,9 @@ counts-tallied m t e =
 
 -- the entries are those of the queue and the ring, whatever else the record has
 pub by_parts : (core queue : List ℕ) (rules : Rules) (ring : Ring) (steps held : ℕ) (counts threads : List ℕ)
-    → (soundEntries (unnamed [] queue rules ring 0 held counts []) && tallied (unnamed [] queue rules ring 0 held counts []))
-    ≡ (soundEntries (unnamed core queue rules ring steps held counts threads) && tallied (unnamed core queue rules ring steps held counts threads))
-unfolding entries soundEntry
+    → (sound_entries (unnamed [] queue rules ring 0 held counts []) && tallied (unnamed [] queue rules ring 0 held counts []))
+    ≡ (sound_entries (unnamed core queue rules ring steps held counts threads) && tallied (unnamed core queue rules ring steps held counts threads))
+unfolding entries sound_entry
 by_parts core queue rules ring steps held counts threads = refl
 
 -- a queue alone, looked through slot by slot
@@ -36,22 +36,22 @@ module _ (queue : List ℕ) (rules : Rules) (ring : Ring) (held : ℕ) (counts :
   lone = unnamed [] queue rules ring 0 held counts []
 
   abbrev pub test : ℕ → Bool
-  test = soundEntry (headerOf rules noRing (names_of held [] []) counts [])
+  test = sound_entry (header_of rules no_ring (names_of held [] []) counts [])
 
-  tests-are : every test (slots queue ring.head ring.length) ≡ soundEntries lone
-  unfolding entries soundEntry
+  tests-are : every test (slots queue ring.head ring.length) ≡ sound_entries lone
+  unfolding entries sound_entry
   tests-are = refl
 
   tallies-are : (k : ℕ) → tally (named k) (slots queue ring.head ring.length) ≡ entries_at lone k
   unfolding entries
   tallies-are k = refl
 
-  pub unsound-entry : every test (slots queue ring.head ring.length) ≡ false → false ≡ (soundEntries lone && tallied lone)
+  pub unsound-entry : every test (slots queue ring.head ring.length) ≡ false → false ≡ (sound_entries lone && tallied lone)
   unsound-entry e = sym (ap (λ (b : Bool). b && tallied lone) (sym tests-are ∙ e))
 
   pub by-counts : every test (slots queue ring.head ring.length) ≡ true → (t : List ℕ)
       → ((k : ℕ) → get_or t k 0 ≡ tally (named k) (slots queue ring.head ring.length))
-      → {r : Bool} → r ≡ every (λ i. eqb (get_or counts i 0) (get_or t i 0)) (table (λ i. i) 0 held) → r ≡ (soundEntries lone && tallied lone)
+      → {r : Bool} → r ≡ every (λ i. eqb (get_or counts i 0) (get_or t i 0)) (table (λ i. i) 0 held) → r ≡ (sound_entries lone && tallied lone)
   by-counts e t f g =
       g ∙ counts-tallied lone t (λ k. f k ∙ tallies-are k) ∙ sym (ap (λ (b : Bool). b && tallied lone) (sym tests-are ∙ e))
 
@@ -64,9 +64,9 @@ module _ (k : ℕ) (m : Machine) where
   regrouped true false e t l = sym (and-false (l && (e && t)))
 
   -- in the order of the code
-  scanned-is : scanned k m ≡ (in_range m && lastingAll k m && (soundEntries m && tallied m) && soundCells m)
+  scanned-is : scanned k m ≡ (in_range m && lasting_all k m && (sound_entries m && tallied m) && sound_cells m)
   unfolding scanned
-  scanned-is = regrouped (in_range m) (soundCells m) (soundEntries m) (tallied m) (lastingAll k m)
+  scanned-is = regrouped (in_range m) (sound_cells m) (sound_entries m) (tallied m) (lasting_all k m)
 
   pub out_of_range : in_range m ≡ false → false ≡ scanned k m
   out_of_range e = sym (scanned-is ∙ simp e)
@@ -80,8 +80,8 @@ module _ (k : ℕ) (m : Machine) where
       threads_end e = sym (scanned-is ∙ simp (r, s, e))
 
       module _ (t : every (lasting k) m.header.threads ≡ true) where
-        pub entries-unsound : (soundEntries m && tallied m) ≡ false → false ≡ scanned k m
+        pub entries-unsound : (sound_entries m && tallied m) ≡ false → false ≡ scanned k m
         entries-unsound e = sym (scanned-is ∙ simp (r, s, t, e))
 
-        pub by-cells : (soundEntries m && tallied m) ≡ true → soundCells m ≡ scanned k m
+        pub by-cells : (sound_entries m && tallied m) ≡ true → sound_cells m ≡ scanned k m
         by-cells e = sym (scanned-is ∙ simp (r, s, t, e))

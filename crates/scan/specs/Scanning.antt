@@ -2,10 +2,10 @@
 -- Believed. Assumes nothing.
 use Rattle.std.specs.Prelude.{ℕ, ◌+◌, Bool, ◌&&◌, eqb, leb, get_or}
 use Rattle.laws.specs.Lists.{every, tally, table}
-use Rattle.cell.specs.Cells.{soundWord}
+use Rattle.cell.specs.Cells.{sound_word}
 use Rattle.machine.specs.State.{Machine}
-use Rattle.machine.specs.Queue.{unpackedEntry, entries}
-use Rattle.machine.specs.Soundness.{soundEntry}
+use Rattle.machine.specs.Queue.{unpacked_entry, entries}
+use Rattle.machine.specs.Soundness.{sound_entry}
 use Rattle.lent.specs.Parts.{headed}
 
 -- as a sound header has it: the head lies in a queue memory of at most 65,535 entries, and at most 16 names are held
@@ -13,16 +13,16 @@ abbrev pub in_range : Machine → Bool
 in_range m = headed m && leb m.header.names.held 16
 
 -- every cell of the core is sound
-abbrev pub soundCells : Machine → Bool
-soundCells m = every (soundWord m.header.rules.size) m.core
+abbrev pub sound_cells : Machine → Bool
+sound_cells m = every (sound_word m.header.rules.size) m.core
 
 -- every queued entry is sound
-abbrev pub soundEntries : Machine → Bool
-soundEntries m = every (soundEntry m.header) (entries m)
+abbrev pub sound_entries : Machine → Bool
+sound_entries m = every (sound_entry m.header) (entries m)
 
 -- the entries of the name at an index
 abbrev pub entries_at : Machine → ℕ → ℕ
-entries_at m i = tally (λ w. eqb (unpackedEntry w).name i) (entries m)
+entries_at m i = tally (λ w. eqb (unpacked_entry w).name i) (entries m)
 
 -- each held name's count is the number of its entries
 abbrev pub tallied : Machine → Bool
@@ -33,9 +33,9 @@ abbrev pub lasting : ℕ → ℕ → Bool
 lasting k n = leb (n + k) 4294967295
 
 -- steps taken and the next thread numbers are such counters
-abbrev pub lastingAll : ℕ → Machine → Bool
-lastingAll k m = lasting k m.header.steps && every (lasting k) m.header.threads
+abbrev pub lasting_all : ℕ → Machine → Bool
+lasting_all k m = lasting k m.header.steps && every (lasting k) m.header.threads
 
 -- the record is sound all through, and no counter comes to its end within k steps
 unfoldable pub scanned : ℕ → Machine → Bool
-scanned k m = in_range m && soundCells m && soundEntries m && tallied m && lastingAll k m
+scanned k m = in_range m && sound_cells m && sound_entries m && tallied m && lasting_all k m

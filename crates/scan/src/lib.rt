@@ -3,9 +3,9 @@
 
 ghost use Rattle.std.specs.Prelude.{◌≡◌, ◌&&◌, [], ◌<◌, ◌≤◌, eqb, length, get_or};
 ghost use Rattle.laws.specs.Lists.{every, table};
-ghost use Rattle.cell.specs.Cells.{soundWord};
+ghost use Rattle.cell.specs.Cells.{sound_word};
 ghost use Rattle.lent.specs.Parts.{unnamed};
-ghost use Rattle.scan.specs.Scanning.{soundEntries, tallied, lasting, scanned};
+ghost use Rattle.scan.specs.Scanning.{sound_entries, tallied, lasting, scanned};
 
 use cell::sound;
 use entry::unpack;
@@ -16,7 +16,7 @@ use soundness::sound_front;
 
 // Whether every cell is sound. A cell like the one before it needs no second look.
 fn cells_sound(core: &[u64], size: u32) -> bool
-    ensures { result ≡ every (soundWord size) core.now }
+    ensures { result ≡ every (sound_word size) core.now }
 {
     if core.len() == 0 {
         return true;
@@ -80,7 +80,7 @@ fn counts_are<'a>(counts: &'a [u32; 16], tallies: &'a [u32; 16], held: usize) ->
 // Whether every queued entry is sound, and each held name's count is the number of its entries.
 fn entries_tallied(queue: &[u64], counts: &[u32; 16], rules: Rules, held: u32, ring: Ring) -> bool
     requires { (length queue.now ≤ 65535) × (ring.head < length queue.now) × (held ≤ 16) }
-    ensures { result ≡ (soundEntries (unnamed [] queue.now rules ring 0 held counts.now [])
+    ensures { result ≡ (sound_entries (unnamed [] queue.now rules ring 0 held counts.now [])
         && tallied (unnamed [] queue.now rules ring 0 held counts.now [])) }
 {
     let slots = queue.len() as u32;

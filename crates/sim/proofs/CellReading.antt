@@ -14,10 +14,10 @@ use Rattle.laws.proofs.Tests.{both}
 use Rattle.cell.specs.declared.Cell.{Cell}
 use Rattle.laws.proofs.Modulo.{mod-small}
 use Rattle.offset.specs.Offset.{euclid, ahead}
-use Rattle.cell.specs.Cells.{unpacked, soundWord}
+use Rattle.cell.specs.Cells.{unpacked, sound_word}
 use Rattle.offset.proofs.Offsets.{euclid-lt, sum_is}
 use Rattle.machine.specs.State.{Machine}
-use Rattle.machine.specs.Soundness.{soundHeader}
+use Rattle.machine.specs.Soundness.{sound_header}
 use Rattle.machine.specs.Run.{word_at, read}
 use Rattle.machine.proofs.Soundness.{tested}
 
@@ -26,11 +26,11 @@ module _ (m : Machine) (z : ℤ) where
   abbrev pub Reads : Cell → ℕ → Type 0
   Reads c n = (gives n 0 ≡ gives (read m z).number 0) × (c ≡ unpacked (read m z).value)
 
-  pub unsound-header : {c : Cell} → c ≡ unpacked 0 → soundHeader m ≡ false → Reads c 9
+  pub unsound-header : {c : Cell} → c ≡ unpacked 0 → sound_header m ≡ false → Reads c 9
   unfolding read
   unsound-header p e = (simp e, p ∙ simp e)
 
-  module _ (s : soundHeader m ≡ true) where
+  module _ (s : sound_header m ≡ true) where
     tests : (leb 1 m.header.rules.size ≡ true) × (m.header.rules.size ≡ length m.core)
     tests = let t = tested m s in ((both (leb 1 m.header.rules.size) (leb m.header.rules.size 46341) t.size).0, sym t.core)
 
@@ -48,14 +48,14 @@ module _ (m : Machine) (z : ℤ) where
     pub place-lt : {p : ℕ} → p ≡ euclid z m.header.rules.size → p < length m.core
     place-lt {p} e = rw (e, ← tests.1) (euclid-lt z m.header.rules.size positive)
 
-    pub unsound-cell : {c : Cell} {p : ℕ} → c ≡ unpacked 0 → p ≡ euclid z m.header.rules.size → soundWord m.header.rules.size (get_or m.core p 0) ≡ false → Reads c 9
+    pub unsound-cell : {c : Cell} {p : ℕ} → c ≡ unpacked 0 → p ≡ euclid z m.header.rules.size → sound_word m.header.rules.size (get_or m.core p 0) ≡ false → Reads c 9
     unfolding read
     unsound-cell {c} {p} q e f =
-        let g : soundWord m.header.rules.size (word_at m z) ≡ false = ap (λ (k : ℕ). soundWord m.header.rules.size (get_or m.core k 0)) (sym e) ∙ f in
+        let g : sound_word m.header.rules.size (word_at m z) ≡ false = ap (λ (k : ℕ). sound_word m.header.rules.size (get_or m.core k 0)) (sym e) ∙ f in
         (simp (s, g), q ∙ simp (s, g))
 
-    pub reads : {c : Cell} {p : ℕ} → c ≡ unpacked (get_or m.core p 0) → p ≡ euclid z m.header.rules.size → soundWord m.header.rules.size (get_or m.core p 0) ≡ true → Reads c 0
+    pub reads : {c : Cell} {p : ℕ} → c ≡ unpacked (get_or m.core p 0) → p ≡ euclid z m.header.rules.size → sound_word m.header.rules.size (get_or m.core p 0) ≡ true → Reads c 0
     unfolding read
     reads {c} {p} q e f =
-        let g : soundWord m.header.rules.size (word_at m z) ≡ true = ap (λ (k : ℕ). soundWord m.header.rules.size (get_or m.core k 0)) (sym e) ∙ f in
+        let g : sound_word m.header.rules.size (word_at m z) ≡ true = ap (λ (k : ℕ). sound_word m.header.rules.size (get_or m.core k 0)) (sym e) ∙ f in
         (simp (s, g), q ∙ ap (λ (k : ℕ). unpacked (get_or m.core k 0)) e ∙ simp (s, g))

@@ -4,11 +4,11 @@
 ghost use Rattle.std.specs.Prelude.{◌≡◌};
 ghost use Rattle.answer.specs.Numbers.{told, gives};
 ghost use Rattle.cell.specs.Cells.{unpacked};
-ghost use Rattle.machine.specs.State.{ofSize};
+ghost use Rattle.machine.specs.State.{of_size};
 ghost use Rattle.machine.specs.Fresh as spec;
 ghost use Rattle.machine.specs.Run as run;
 ghost use Rattle.lent.specs.Parts.{machine_of};
-ghost use Rattle.lent.specs.Given.{given, givenBy};
+ghost use Rattle.lent.specs.Given.{given, given_by};
 
 use answer::Answer;
 use cell::{Cell, fresh_cell, sound, unpack};
@@ -52,7 +52,7 @@ pub fn refuse(answer: Answer, h: Header) -> Outcome
 
 // A refusal of a fresh machine: a header of zeros.
 fn no_machine(answer: Answer) -> Outcome
-    ensures { (result.answer ≡ answer) × (result.writes ≡ 0) × (result.steps ≡ 0) × (result.header ≡ spec.blank (ofSize 0)) }
+    ensures { (result.answer ≡ answer) × (result.writes ≡ 0) × (result.steps ≡ 0) × (result.header ≡ spec.blank (of_size 0)) }
 {
     refuse(answer, blank(of_size(0)))
 }
@@ -60,7 +60,7 @@ fn no_machine(answer: Answer) -> Outcome
 // A fresh machine: fresh cells, zeros in the queue memory, and its header.
 pub fn fresh(rules: Rules, core: &mut [u64], queue: &mut [u64]) -> Outcome
     ensures { given (told result.answer) result.writes result.steps (machine_of core.new queue.new result.header)
-        ≡ givenBy (spec.fresh rules core.old queue.old) }
+        ≡ given_by (spec.fresh rules core.old queue.old) }
 {
     let size = rules.size;
     if !((1 <= size) & (size <= LARGEST_CORE)) {

@@ -13,23 +13,23 @@ use borrow.Author.Tests.{leb-true}
 use Rattle.laws.specs.Lists.{all, every, table, total, distinct}
 use Rattle.laws.proofs.Tests.{both, and_assoc, and-true}
 use Rattle.laws.proofs.Loops.{take-table}
-use Rattle.metadata.specs.Metadata.{validByte}
+use Rattle.metadata.specs.Metadata.{valid_byte}
 use Rattle.machine.specs.declared.Header.{Header}
 use Rattle.machine.specs.State.{Machine}
 use Rattle.machine.specs.Names.{names}
-use Rattle.machine.specs.Soundness.{validLimits, headerTests, soundHeader, soundEntry}
+use Rattle.machine.specs.Soundness.{valid_limits, header_tests, sound_header, sound_entry}
 use Rattle.machine.proofs.Soundness.{taken-tests}
-use Rattle.lent.specs.Parts.{names_of, headerOf, noRing, machine_of, validLength}
+use Rattle.lent.specs.Parts.{names_of, header_of, no_ring, machine_of, valid_length}
 
 -- the tests of numbers, which come first, told whether the limits are valid
-abbrev pub numbersBy : Bool → Machine → Bool
-numbersBy limits m =
+abbrev pub numbers_by : Bool → Machine → Bool
+numbers_by limits m =
     let h = m.header in
     leb 1 h.rules.size && leb h.rules.size 46341 && eqb h.rules.size (length m.core) && leb 1 (length m.queue) && leb (length m.queue) 65535
     && limits && leb h.ring.length (length m.queue) && ltb h.ring.head (length m.queue) && leb h.names.held 16
 
 abbrev pub numbers : Machine → Bool
-numbers m = numbersBy (validLimits m.header.rules) m
+numbers m = numbers_by (valid_limits m.header.rules) m
 
 -- at each place of a table that passes
 every-at : {A : Type 0} (p : A → Bool) (f : ℕ → A) (n i k : ℕ) → every p (table f i n) ≡ true → i ≤ k → k < i + n → p (f k) ≡ true
@@ -39,50 +39,50 @@ every-at p f (suc n) i k t l h =
     ⊎_elim (λ e. ap (λ (j : ℕ). p (f j)) (sym e) ∙ b.0) (λ g. every-at p f n (suc i) k b.1 g (omega arith)) (eq-or-lt_of_le l)
 
 -- where each name has 1 to 32 bytes, none has more
-pub short : (lengths : List ℕ) (held : ℕ) → held ≤ length lengths → every validLength (take held lengths) ≡ true → (k : ℕ) → k < held → get_or lengths k 0 ≤ 32
+pub short : (lengths : List ℕ) (held : ℕ) → held ≤ length lengths → every valid_length (take held lengths) ≡ true → (k : ℕ) → k < held → get_or lengths k 0 ≤ 32
 short lengths held l t k h = leb-true (get_or lengths k 0) 32 (both (leb 1 (get_or lengths k 0)) (leb (get_or lengths k 0) 32) valid).1
   where
-    valid : validLength (get_or lengths k 0) ≡ true
-    valid = every-at validLength (λ (i : ℕ). get_or lengths i 0) held 0 k (ap (every validLength) (sym (take-table 0 lengths held l)) ∙ t) zero-le (rw zero-add h)
+    valid : valid_length (get_or lengths k 0) ≡ true
+    valid = every-at valid_length (λ (i : ℕ). get_or lengths i 0) held 0 k (ap (every valid_length) (sym (take-table 0 lengths held l)) ∙ t) zero-le (rw zero-add h)
 
 -- the header's tests, numbers first
 module _ (m : Machine) where
-  header_is : soundHeader m
-      ≡ (numbers m && (every validLength (take m.header.names.held m.header.names.lengths)
-      && (every (every validByte) (names m.header.names) && (distinct (names m.header.names) && eqb (total (take m.header.names.held m.header.counts)) m.header.ring.length))))
-  unfolding soundHeader
+  header_is : sound_header m
+      ≡ (numbers m && (every valid_length (take m.header.names.held m.header.names.lengths)
+      && (every (every valid_byte) (names m.header.names) && (distinct (names m.header.names) && eqb (total (take m.header.names.held m.header.counts)) m.header.ring.length))))
+  unfolding sound_header
   header_is =
-      ap (λ (b : Bool). b && all (drop 1 (headerTests m))) (taken-tests m.header.rules m.core m.queue) ∙ simp (and_assoc, and-true)
+      ap (λ (b : Bool). b && all (drop 1 (header_tests m))) (taken-tests m.header.rules m.core m.queue) ∙ simp (and_assoc, and-true)
 
-  pub no-numbers : numbers m ≡ false → false ≡ soundHeader m
+  pub no-numbers : numbers m ≡ false → false ≡ sound_header m
   no-numbers e = sym (header_is ∙ simp e)
 
   module _ (n : numbers m ≡ true) where
     pub few : m.header.names.held ≤ 16
     few = leb-true m.header.names.held 16 (both (leb 1 m.header.rules.size && leb m.header.rules.size 46341 && eqb m.header.rules.size (length m.core) && leb 1 (length m.queue) && leb (length m.queue) 65535
-        && validLimits m.header.rules && leb m.header.ring.length (length m.queue) && ltb m.header.ring.head (length m.queue)) (leb m.header.names.held 16) n).1
+        && valid_limits m.header.rules && leb m.header.ring.length (length m.queue) && ltb m.header.ring.head (length m.queue)) (leb m.header.names.held 16) n).1
 
-    pub no_lengths : every validLength (take m.header.names.held m.header.names.lengths) ≡ false → false ≡ soundHeader m
+    pub no_lengths : every valid_length (take m.header.names.held m.header.names.lengths) ≡ false → false ≡ sound_header m
     no_lengths e = sym (header_is ∙ simp (n, e))
 
-    module _ (l : every validLength (take m.header.names.held m.header.names.lengths) ≡ true) where
-      pub no_names : every (every validByte) (names m.header.names) ≡ false → false ≡ soundHeader m
+    module _ (l : every valid_length (take m.header.names.held m.header.names.lengths) ≡ true) where
+      pub no_names : every (every valid_byte) (names m.header.names) ≡ false → false ≡ sound_header m
       no_names e = sym (header_is ∙ simp (n, l, e))
 
-      module _ (v : every (every validByte) (names m.header.names) ≡ true) where
-        pub not-distinct : distinct (names m.header.names) ≡ false → false ≡ soundHeader m
+      module _ (v : every (every valid_byte) (names m.header.names) ≡ true) where
+        pub not-distinct : distinct (names m.header.names) ≡ false → false ≡ sound_header m
         not-distinct e = sym (header_is ∙ simp (n, l, v, e))
 
-        pub by_total : {t : ℕ} → distinct (names m.header.names) ≡ true → t ≡ total (take m.header.names.held m.header.counts) → eqb t m.header.ring.length ≡ soundHeader m
+        pub by_total : {t : ℕ} → distinct (names m.header.names) ≡ true → t ≡ total (take m.header.names.held m.header.counts) → eqb t m.header.ring.length ≡ sound_header m
         by_total e s = sym (header_is ∙ simp (n, l, v, e) (ap (λ (k : ℕ). eqb k m.header.ring.length) (sym s)))
 
 -- the test looks at these parts of a header alone
 pub by_parts : (core queue : List ℕ) (h : Header)
-    → soundHeader (machine_of core queue (headerOf h.rules h.ring h.names h.counts []))
-    ≡ soundHeader (machine_of core queue h)
-unfolding soundHeader
+    → sound_header (machine_of core queue (header_of h.rules h.ring h.names h.counts []))
+    ≡ sound_header (machine_of core queue h)
+unfolding sound_header
 by_parts core queue h = refl
 
-pub entry-by-parts : (h : Header) (w : ℕ) → soundEntry (headerOf h.rules noRing (names_of h.names.held [] []) h.counts []) w ≡ soundEntry h w
-unfolding soundEntry
+pub entry-by-parts : (h : Header) (w : ℕ) → sound_entry (header_of h.rules no_ring (names_of h.names.held [] []) h.counts []) w ≡ sound_entry h w
+unfolding sound_entry
 entry-by-parts h w = refl

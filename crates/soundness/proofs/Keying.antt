@@ -10,12 +10,12 @@ use native.Mathlib.Omega.{arith}
 use lib.Dec.{eqb}
 use lib.ListN.{get_or}
 use borrow.Author.Tests.{eq-eqb}
-use Rattle.laws.specs.Lists.{oneIf, tally, table, total, same}
+use Rattle.laws.specs.Lists.{one_if, tally, table, total, same}
 use Rattle.laws.proofs.Tests.{never}
 use Rattle.laws.proofs.Same.{same_true}
 use Rattle.machine.specs.Names.{name_at}
 use Rattle.lent.specs.Parts.{names_of}
-use Rattle.soundness.specs.inner.Keys.{keyOf, Keyed, timesIn}
+use Rattle.soundness.specs.Inner.Keys.{key_of, Keyed, times_in}
 
 -- a test that passes nowhere in a table
 none_in : {A : Type 0} (p : A → Bool) (f : ℕ → A) (n i : ℕ) → ((k : ℕ) → i ≤ k → k < i + n → p (f k) ≡ false) → tally p (table f i n) ≡ 0
@@ -38,14 +38,14 @@ module _ (p : ℕ → Bool) (f : ℕ → ℕ) where
       (λ m. let r : 2 ≤ tally p (table f (suc i) n) = passes-twice n (suc i) j k d e m g (omega arith) in omega arith) (eq-or-lt_of_le l)
 
 -- a count is a sum of ones
-pub tally-total : (p : ℕ → Bool) (f : ℕ → ℕ) (n i : ℕ) → total (table (λ (k : ℕ). oneIf (p (f k))) i n) ≡ tally p (table f i n)
+pub tally-total : (p : ℕ → Bool) (f : ℕ → ℕ) (n i : ℕ) → total (table (λ (k : ℕ). one_if (p (f k))) i n) ≡ tally p (table f i n)
 tally-total p f zero i = refl
-tally-total p f (suc n) i = ap (λ (k : ℕ). oneIf (p (f i)) + k) (tally-total p f n (suc i))
+tally-total p f (suc n) i = ap (λ (k : ℕ). one_if (p (f i)) + k) (tally-total p f n (suc i))
 
 -- a name whose key stands once is unlike those after it
-pub once-unlike : (names lengths keys : List ℕ) (held i : ℕ) → Keyed names lengths keys held → i < held → held ≤ 16 → timesIn keys (get_or keys i 0) ≡ 1
+pub once-unlike : (names lengths keys : List ℕ) (held i : ℕ) → Keyed names lengths keys held → i < held → held ≤ 16 → times_in keys (get_or keys i 0) ≡ 1
     → true ≡ eqb (tally (same (name_at (names_of 0 names lengths) i)) (table (name_at (names_of 0 names lengths)) (i + 1) (held - (i + 1)))) 0
-unfolding timesIn
+unfolding times_in
 once-unlike names lengths keys held i keyed h few once =
     sym (eq-eqb _ 0 (none_in (same (name i)) name (held - (i + 1)) (i + 1) (λ k l g. sym (never _ (unlike k (omega arith) (omega arith))))))
   where
@@ -57,6 +57,6 @@ once-unlike names lengths keys held i keyed h few once =
 
     unlike : (k : ℕ) → i < k → k < held → same (name i) (name k) ≡ true → ⊥
     unlike k l g s =
-        let q : key k ≡ key i = keyed k g ∙ sym (ap keyOf (same_true (name i) (name k) s)) ∙ sym (keyed i h) in
+        let q : key k ≡ key i = keyed k g ∙ sym (ap key_of (same_true (name i) (name k) s)) ∙ sym (keyed i h) in
         let t : 2 ≤ tally (λ (k : ℕ). eqb k (key i)) (table key 0 16) = passes-twice (λ (k : ℕ). eqb k (key i)) key 16 0 i k (eq-eqb (key i) (key i) refl) (eq-eqb (key k) (key i) q) zero-le l (omega arith) in
         omega arith

@@ -1,1 +1,1 @@
-pub mod inner
+pub mod Inner

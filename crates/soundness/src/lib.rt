@@ -2,12 +2,12 @@
 #![tactic(auto)]
 
 ghost use Rattle.std.specs.Prelude.{◌≡◌, [], ℕ, ◌+◌, ◌-◌, ◌≤◌, ◌<◌, eqb, length, get_or, take, drop};
-ghost use Rattle.laws.specs.Lists.{oneIf, every, tally, table, total, same, distinct};
-ghost use Rattle.metadata.specs.Metadata.{validByte};
+ghost use Rattle.laws.specs.Lists.{one_if, every, tally, table, total, same, distinct};
+ghost use Rattle.metadata.specs.Metadata.{valid_byte};
 ghost use Rattle.machine.specs.Names.{name_at, names};
-ghost use Rattle.machine.specs.Soundness.{soundHeader, soundEntry};
-ghost use Rattle.lent.specs.Parts.{names_of, headerOf, noRing, machine_of, validLength};
-ghost use Rattle.soundness.specs.inner.Keys.{keyOf, Keyed, timesIn};
+ghost use Rattle.machine.specs.Soundness.{sound_header, sound_entry};
+ghost use Rattle.lent.specs.Parts.{names_of, header_of, no_ring, machine_of, valid_length};
+ghost use Rattle.soundness.specs.Inner.Keys.{key_of, Keyed, times_in};
 
 use encoding::byte;
 use entry::unpack;
@@ -20,7 +20,7 @@ use offset::within;
 // Whether each name held has 1 to 32 bytes.
 fn lengths_valid(lengths: &[u8; 16], held: usize) -> bool
     requires { held ≤ 16 }
-    ensures { (result ≡ every validLength (take held lengths.now)) × (length lengths.now ≡ 16) }
+    ensures { (result ≡ every valid_length (take held lengths.now)) × (length lengths.now ≡ 16) }
 {
     let sizes = &lengths[..];
     let mut i: usize = 0;
@@ -40,7 +40,7 @@ fn lengths_valid(lengths: &[u8; 16], held: usize) -> bool
 // Whether the bytes of the name that starts there are valid.
 fn bytes_valid(names: &[u8; 512], start: usize, size: usize) -> bool
     requires { (start + 32 ≤ 512) × (size ≤ 32) }
-    ensures { result ≡ every validByte (take size (drop start names.now)) }
+    ensures { result ≡ every valid_byte (take size (drop start names.now)) }
 {
     let bytes = &names[..];
     let mut valid = true;
@@ -56,7 +56,7 @@ fn bytes_valid(names: &[u8; 512], start: usize, size: usize) -> bool
 // Whether the bytes of each name held are valid.
 fn names_valid<'a>(names: &'a [u8; 512], lengths: &'a [u8; 16], held: usize) -> bool
     requires { (held ≤ 16) × ((k : ℕ) → k < held → get_or lengths.now k 0 ≤ 32) }
-    ensures { result ≡ every (every validByte) (table (name_at (names_of 0 names.now lengths.now)) 0 held) }
+    ensures { result ≡ every (every valid_byte) (table (name_at (names_of 0 names.now lengths.now)) 0 held) }
 {
     let mut i: usize = 0;
     while i < held {
@@ -71,7 +71,7 @@ fn names_valid<'a>(names: &'a [u8; 512], lengths: &'a [u8; 16], held: usize) -> 
 
 // The key of a name: its length, and its first byte, the last but one and the last.
 fn key_of(name: &[u8]) -> u32
-    ensures { result ≡ keyOf name.now }
+    ensures { result ≡ key_of name.now }
 {
     let n = name.len();
     let first = byte(name, 0) as u32;
@@ -103,7 +103,7 @@ fn keys_of<'a>(names: &'a [u8; 512], lengths: &'a [u8; 16], held: usize) -> [u32
 
 // 1 where a test passes.
 fn one_if(test: bool) -> u32
-    ensures { (result ≡ oneIf test) × (result ≤ 1) }
+    ensures { (result ≡ one_if test) × (result ≤ 1) }
 {
     if test {
         return 1;
@@ -113,7 +113,7 @@ fn one_if(test: bool) -> u32
 
 // How many of the keys are this one.
 fn times(keys: &[u32; 16], key: u32) -> u32
-    ensures { result ≡ timesIn keys.now key }
+    ensures { result ≡ times_in keys.now key }
 {
     let mut n: u32 = 0;
     let mut j: usize = 0;
@@ -201,7 +201,7 @@ pub fn sound_header<'a>(
     lengths: &'a [u8; 16],
     counts: &'a [u32; 16],
 ) -> bool
-    ensures { result ≡ soundHeader (machine_of core.now queue.now (headerOf rules ring (names_of held names.now lengths.now) counts.now [])) }
+    ensures { result ≡ sound_header (machine_of core.now queue.now (header_of rules ring (names_of held names.now lengths.now) counts.now [])) }
 {
     let slots = queue.len();
     let limits = valid_limits(rules);
@@ -232,7 +232,7 @@ pub fn sound_header<'a>(
 
 // Whether a front entry is sound.
 pub fn sound_front(w: u64, rules: Rules, held: u32, counts: &[u32; 16]) -> bool
-    ensures { result ≡ soundEntry (headerOf rules noRing (names_of held [] []) counts.now []) w }
+    ensures { result ≡ sound_entry (header_of rules no_ring (names_of held [] []) counts.now []) w }
 {
     let e = unpack(w);
     let name = e.name as usize;

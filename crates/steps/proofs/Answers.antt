@@ -13,28 +13,28 @@ use Rattle.laws.proofs.Tests.{both, neither}
 use Rattle.laws.proofs.Tally.{count-le}
 use Rattle.answer.specs.Numbers.{told}
 use Rattle.answer.specs.declared.Answer.TheVariants.{PrivateMemory}
-use Rattle.cell.specs.Cells.{soundWord}
+use Rattle.cell.specs.Cells.{sound_word}
 use Rattle.machine.specs.declared.Roster.{Roster}
 use Rattle.machine.specs.declared.Rules.{Rules}
 use Rattle.machine.specs.State.{Machine, check, Verdict, accepted, refusal, first, settle}
 use Rattle.machine.specs.Queue.{front, pop}
-use Rattle.machine.specs.Soundness.{soundEntry}
+use Rattle.machine.specs.Soundness.{sound_entry}
 use Rattle.machine.specs.Execution.{dat, divisor, Next, ends, goes, splits}
-use Rattle.machine.specs.Pointers.{siteAt}
-use Rattle.machine.specs.Instruction.{fetched, effectAt, coreAt, seen_at, writtenAt}
+use Rattle.machine.specs.Pointers.{site_at}
+use Rattle.machine.specs.Instruction.{fetched, effect_at, core_at, seen_at, written_at}
 use Rattle.machine.specs.Step as spec
-use Rattle.machine.specs.Step.{popped, pc, site, effect, stepWritten, counted, Queued, queued, nextTold, executed, nextChecks}
+use Rattle.machine.specs.Step.{popped, pc, site, effect, step_written, counted, Queued, queued, next_told, executed, next_checks}
 use Rattle.machine.proofs.Soundness.{is-taken, SoundEntry, sound-entry}
 use Rattle.machine.proofs.Step.{nonzero}
-use Rattle.lent.specs.Parts.{parts, queueOf}
-use Rattle.lent.specs.Given.{Given, given, givenBy}
-use Rattle.address.specs.inner.Operands.{Fetched, private}
+use Rattle.lent.specs.Parts.{parts, queue_of}
+use Rattle.lent.specs.Given.{Given, given, given_by}
+use Rattle.address.specs.Inner.Operands.{Fetched, private}
 use Rattle.address.proofs.Evaluation.{over-private, few-public}
 use Rattle.steps.specs.declared.opcode.Executed.{Executed}
 use Rattle.steps.specs.declared.ring.Stepped.{Stepped}
-use Rattle.steps.specs.inner.Instruction.{Executable, answered}
-use Rattle.steps.specs.inner.Queueing.{ringOf, tailOf, Front, next_of, writes_of, Requeued}
-use Rattle.steps.specs.inner.Ready.{Ready, Playable, step_of}
+use Rattle.steps.specs.Inner.Instruction.{Executable, answered}
+use Rattle.steps.specs.Inner.Queueing.{ring_of, tail_of, Front, next_of, writes_of, Requeued}
+use Rattle.steps.specs.Inner.Ready.{Ready, Playable, step_of}
 use Rattle.steps.proofs.Naming.{within, queued-within}
 
 -- six rows of which only the fifth can apply
@@ -70,16 +70,16 @@ module _ (m : Machine) (ready : Ready m) (play : Playable m) where
   worn = eqb m.header.steps 4294967295 || eqb (get_or m.header.threads (popped m).name 0) 4294967295
 
   abbrev unsound-here : Bool
-  unsound-here = not (soundWord size (get_or m.core (pc m) 0))
+  unsound-here = not (sound_word size (get_or m.core (pc m) 0))
 
   abbrev unsound-read : Bool
-  unsound-read = not (every (soundWord size) (seen_at (site m) m.core))
+  unsound-read = not (every (sound_word size) (seen_at (site m) m.core))
 
-  passed : (eqb m.header.ring.length 0 ≡ false) × (not (soundEntry m.header (front m)) ≡ false) × (worn ≡ false) × (unsound-here ≡ false)
-  passed = rows (eqb m.header.ring.length 0) (not (soundEntry m.header (front m))) worn unsound-here (private m.core (pc m)) unsound-read play.only
+  passed : (eqb m.header.ring.length 0 ≡ false) × (not (sound_entry m.header (front m)) ≡ false) × (worn ≡ false) × (unsound-here ≡ false)
+  passed = rows (eqb m.header.ring.length 0) (not (sound_entry m.header (front m))) worn unsound-here (private m.core (pc m)) unsound-read play.only
 
   at_front : SoundEntry m.header (front m)
-  at_front = sound-entry m.header (front m) (not-false (soundEntry m.header (front m)) passed.1)
+  at_front = sound-entry m.header (front m) (not-false (sound_entry m.header (front m)) passed.1)
 
   unworn : (eqb m.header.steps 4294967295 ≡ false) × (eqb (get_or m.header.threads (popped m).name 0) 4294967295 ≡ false)
   unworn = neither (eqb m.header.steps 4294967295) (eqb (get_or m.header.threads (popped m).name 0) 4294967295) passed.2
@@ -88,8 +88,8 @@ module _ (m : Machine) (ready : Ready m) (play : Playable m) where
   pub step_left : m.header.steps ≤ 4294967295 → m.header.steps < 4294967295
   step_left h = let n : m.header.steps ≡ 4294967295 → ⊥ = eqb-false _ _ unworn.0 in omega arith
 
-  pub here-sound : soundWord size (get_or m.core (pc m) 0) ≡ true
-  here-sound = not-false (soundWord size (get_or m.core (pc m) 0)) passed.3
+  pub here-sound : sound_word size (get_or m.core (pc m) 0) ≡ true
+  here-sound = not-false (sound_word size (get_or m.core (pc m) 0)) passed.3
 
   fetched-is : Fetched m.header.rules m.core (pc m) (get_or m.core (pc m) 0)
   fetched-is =
@@ -107,7 +107,7 @@ module _ (m : Machine) (ready : Ready m) (play : Playable m) where
   fetches = let f = fetched-is in (ready.head, rw f.cells f.place)
 
   -- what going on asks of the queue
-  pub front-is : {tail : ℕ} → tail ≡ tailOf m → Front (queueOf m.queue m.header.ring m.header.counts m.header.threads) tail
+  pub front-is : {tail : ℕ} → tail ≡ tail_of m → Front (queue_of m.queue m.header.ring m.header.counts m.header.threads) tail
   front-is e =
       let k = count-le m.header.counts m.header.names.held (popped m).name at_front.held in
       let t = ready.sum in
@@ -126,7 +126,7 @@ module _ (m : Machine) (ready : Ready m) (play : Playable m) where
       }
 
   -- 10: LDP and STP
-  pub private-step : 16 < (fetched m.core (pc m)).opcode → given (told PrivateMemory) 0 0 m ≡ givenBy (step_of m)
+  pub private-step : 16 < (fetched m.core (pc m)).opcode → given (told PrivateMemory) 0 0 m ≡ given_by (step_of m)
   unfolding step_of
   private-step h =
       let t = passed in
@@ -137,20 +137,20 @@ module _ (m : Machine) (ready : Ready m) (play : Playable m) where
     public : private m.core (pc m) ≡ false
     public = few-public m.core (pc m) few
 
-    read-sound : every (soundWord size) (seen_at (site m) m.core) ≡ true
-    read-sound = not-false (every (soundWord size) (seen_at (site m) m.core)) (last_row (eqb m.header.ring.length 0) (not (soundEntry m.header (front m))) worn unsound-here (private m.core (pc m)) unsound-read play.only public)
+    read-sound : every (sound_word size) (seen_at (site m) m.core) ≡ true
+    read-sound = not-false (every (sound_word size) (seen_at (site m) m.core)) (last_row (eqb m.header.ring.length 0) (not (sound_entry m.header (front m))) worn unsound-here (private m.core (pc m)) unsound-read play.only public)
 
     pub executable : Executable m.header.rules m.core (pc m) (get_or m.core (pc m) 0)
     executable = record { cell = fetched-is; few = few; read = read-sound; limits = (is-taken m.header.rules m.core m.queue ready.taken).limits }
 
-    pub executed-step : givenBy (executed m) ≡ givenBy (step_of m)
+    pub executed-step : given_by (executed m) ≡ given_by (step_of m)
     unfolding step_of
     executed-step =
         let t = passed in
         let u = public in
         let r = read-sound in
-        let e : first (nextChecks m) ≡ accepted = simp (t.0, t.1, t.2, t.3, u, r) in
-        ap (λ (v : Verdict). givenBy (settle v m (executed m))) (sym e)
+        let e : first (next_checks m) ≡ accepted = simp (t.0, t.1, t.2, t.3, u, r) in
+        ap (λ (v : Verdict). given_by (settle v m (executed m))) (sym e)
 
 -- what the code answers tells of the next places and the writes
 next-is : (x : Next) (w : ℕ) → next_of (answered x w) ≡ x
@@ -168,24 +168,24 @@ writes_are (splits p c) w = refl
 -- an instruction executed, and the queue as it leaves it, whatever the steps taken and the names
 module _ (core queue counts threads : List ℕ) (rules : Rules) (head length' : ℕ) where
   abbrev line : Machine
-  line = queueOf queue (ringOf head length') counts threads
+  line = queue_of queue (ring_of head length') counts threads
 
   abbrev next : Next
-  next = (effectAt (siteAt rules (pc line)) core).next
+  next = (effect_at (site_at rules (pc line)) core).next
 
   abbrev writes : ℕ
-  writes = length (writtenAt (siteAt rules (pc line)) core)
+  writes = length (written_at (site_at rules (pc line)) core)
 
-  pub executes : {x : Executed} {r : Stepped} {core' queue' counts' threads' : List ℕ} → (x ≡ answered next writes) × (core' ≡ coreAt (siteAt rules (pc line)) core) → Requeued line x r queue' counts' threads' → (steps : ℕ) (names : Roster)
-      → given (told r.answer) r.writes 1 (parts core' queue' rules (ringOf r.head r.length) (steps + 1) names counts' threads')
-      ≡ givenBy (executed (parts core queue rules (ringOf head length') steps names counts threads))
-  unfolding executed effect stepWritten spec.coreAfter counted pop
+  pub executes : {x : Executed} {r : Stepped} {core' queue' counts' threads' : List ℕ} → (x ≡ answered next writes) × (core' ≡ core_at (site_at rules (pc line)) core) → Requeued line x r queue' counts' threads' → (steps : ℕ) (names : Roster)
+      → given (told r.answer) r.writes 1 (parts core' queue' rules (ring_of r.head r.length) (steps + 1) names counts' threads')
+      ≡ given_by (executed (parts core queue rules (ring_of head length') steps names counts threads))
+  unfolding executed effect step_written spec.core_after counted pop
   executes e q steps names =
       (λ i. given (q.answer i) (q.writes i) 1 (within (e.1 i) rules (steps + 1) names (q.machine i)))
       ∙ ap₂ (λ (n : Next) (w : ℕ). by n w) (ap next_of e.0 ∙ next-is next writes) (ap writes_of e.0 ∙ writes_are next writes)
-      ∙ sym (ap (λ (k : Queued). given (nextTold next (get_or (pop line).header.counts (popped line).name 0) (pc line)) writes 1 k.machine)
-      (queued-within (coreAt (siteAt rules (pc line)) core) rules (steps + 1) names next (popped line) (pop line)))
+      ∙ sym (ap (λ (k : Queued). given (next_told next (get_or (pop line).header.counts (popped line).name 0) (pc line)) writes 1 k.machine)
+      (queued-within (core_at (site_at rules (pc line)) core) rules (steps + 1) names next (popped line) (pop line)))
     where
       by : Next → ℕ → Given
-      by n w = given (nextTold n (get_or (pop line).header.counts (popped line).name 0) (pc line)) w 1
-          (within (coreAt (siteAt rules (pc line)) core) rules (steps + 1) names (queued n (popped line) (pop line)).machine)
+      by n w = given (next_told n (get_or (pop line).header.counts (popped line).name 0) (pc line)) w 1
+          (within (core_at (site_at rules (pc line)) core) rules (steps + 1) names (queued n (popped line) (pop line)).machine)

@@ -7,22 +7,22 @@ use lib.ListN.{length}
 use Rattle.answer.specs.declared.Answer.TheVariants.{UnsoundRecord}
 use Rattle.answer.specs.Numbers.{told}
 use Rattle.machine.specs.State.{Machine}
-use Rattle.machine.specs.Soundness.{soundHeader}
+use Rattle.machine.specs.Soundness.{sound_header}
 use Rattle.machine.specs.declared.Ceiling.{Ceiling}
 use Rattle.machine.specs.declared.Ceiling.TheVariants.{Steps}
-use Rattle.machine.specs.Run.{ceilingOf, run}
-use Rattle.lent.specs.Given.{given, givenBy}
+use Rattle.machine.specs.Run.{ceiling_of, run}
+use Rattle.lent.specs.Given.{given, given_by}
 use Rattle.steps.proofs.Naming.{Sound}
 
-pub is-sound : (m : Machine) → soundHeader m ≡ true
+pub is-sound : (m : Machine) → sound_header m ≡ true
     → (length m.header.names.bytes ≡ 512) × (length m.header.names.lengths ≡ 16) × (length m.header.counts ≡ 16) × (length m.header.threads ≡ 16) → Sound m
 is-sound m s l = record { header = s; names = l.0; lengths = l.1; counts = l.2; threads = l.3 }
 
-pub unsound-run : (ceiling : Ceiling) (m : Machine) → soundHeader m ≡ false → given (told UnsoundRecord) 0 0 m ≡ givenBy (run ceiling m)
+pub unsound-run : (ceiling : Ceiling) (m : Machine) → sound_header m ≡ false → given (told UnsoundRecord) 0 0 m ≡ given_by (run ceiling m)
 unfolding run
 unsound-run ceiling m e = simp e
 
 -- a run goes by its ceiling's number
-pub run_by : (ceiling : Ceiling) (m : Machine) {limit : ℕ} → limit ≡ ceilingOf ceiling → givenBy (run (Steps limit) m) ≡ givenBy (run ceiling m)
+pub run_by : (ceiling : Ceiling) (m : Machine) {limit : ℕ} → limit ≡ ceiling_of ceiling → given_by (run (Steps limit) m) ≡ given_by (run ceiling m)
 unfolding run
-run_by ceiling m e = ap (λ (k : ℕ). givenBy (run (Steps k) m)) e
+run_by ceiling m e = ap (λ (k : ℕ). given_by (run (Steps k) m)) e

@@ -6,7 +6,7 @@ use native.Mathlib.Nat.{mod-mod}
 use native.Mathlib.Omega.{arith}
 use Rattle.laws.proofs.Fields.{beside, beside-low}
 use Rattle.cell.specs.Cells.{packed, unpacked}
-use Rattle.steps.specs.inner.Acts.{copy_of}
+use Rattle.steps.specs.Inner.Acts.{copy_of}
 
 -- `from & 0x3fc0_ffff_ffff | ((to >> 32) & 0x3f) << 32`
 regroup : (p q r s t u x y z : ℕ) → p + q ≡ x → r + s ≡ y → t + u ≡ z → x + (y + z) ≡ p + q + r + s + t + u

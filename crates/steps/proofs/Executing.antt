@@ -10,27 +10,27 @@ use lib.ListN.{length, get_or}
 use Rattle.laws.proofs.Tests.{both}
 use Rattle.laws.proofs.Every.{every-join}
 use Rattle.cell.specs.declared.Cell.{Cell}
-use Rattle.cell.specs.Cells.{unpacked, soundWord, cell_at}
+use Rattle.cell.specs.Cells.{unpacked, sound_word, cell_at}
 use Rattle.cell.proofs.Soundness.{Sound, sound-fields}
 use Rattle.machine.specs.declared.Rules.{Rules}
 use Rattle.machine.specs.Pointers as machine
-use Rattle.machine.specs.Pointers.{Shift, shifts, keeps, lowers, raises, shifted, Site, siteAt}
-use Rattle.machine.specs.Instruction.{fetched, aOperand, bOperand, scene_at, effectAt, coreAt, storeTo, stored_at, writtenAt}
+use Rattle.machine.specs.Pointers.{Shift, shifts, keeps, lowers, raises, shifted, Site, site_at}
+use Rattle.machine.specs.Instruction.{fetched, a_operand, b_operand, scene_at, effect_at, core_at, store_to, stored_at, written_at}
 use Rattle.machine.specs.Execution.{dat, divisor, Next, ends, goes, splits, Effect, Scene, effect_of}
 use Rattle.machine.proofs.Pointers.{length-operand}
 use Rattle.machine.proofs.Execution.{Places, effect-sound}
 use Rattle.machine.proofs.Step.{writes_at}
-use Rattle.address.specs.inner.Operands.{Fetched, soundSeen}
+use Rattle.address.specs.Inner.Operands.{Fetched, sound_seen}
 use Rattle.chain.specs.declared.Operands.{Operands}
-use Rattle.chain.specs.Operands.{absolute, compares, operandsAt}
+use Rattle.chain.specs.Operands.{absolute, compares, operands_at}
 use Rattle.steps.specs.declared.opcode.Executed.{Executed}
-use Rattle.steps.specs.inner.Instruction.{Executable, answered}
-use Rattle.steps.specs.inner.Queueing.{Near}
-use Rattle.steps.specs.inner.Acts.{scene_of, storeWrites, Does, SoundScene}
+use Rattle.steps.specs.Inner.Instruction.{Executable, answered}
+use Rattle.steps.specs.Inner.Queueing.{Near}
+use Rattle.steps.specs.Inner.Acts.{scene_of, store_writes, Does, SoundScene}
 use Rattle.steps.proofs.Seen.{register-whole, writes_are, read_below, write-below, register-sound, sound-after, live-sound, target_sound}
 use Rattle.steps.proofs.Meeting.{one_cell, one_store}
 
-stored-writes : (c : Option Cell) (place : ℕ) → length (stored_at c place) ≡ storeWrites c
+stored-writes : (c : Option Cell) (place : ℕ) → length (stored_at c place) ≡ store_writes c
 stored-writes none place = refl
 stored-writes (some c) place = refl
 
@@ -55,50 +55,50 @@ module _ (rules : Rules) (core : List ℕ) (pc here : ℕ) (x : Executable rules
   size = rules.size
 
   abbrev s : Site
-  s = siteAt rules pc
+  s = site_at rules pc
 
   abbrev f : Fetched rules core pc here
   f = x.cell
 
   abbrev first : machine.Operand
-  first = aOperand s core
+  first = a_operand s core
 
   abbrev last : machine.Operand
-  last = bOperand s core
+  last = b_operand s core
 
   -- where B meets the instruction
   abbrev met : ℕ
   met = cond (compares (fetched core pc).opcode) last.read last.write
 
-  here-sound : soundWord size (get_or core pc 0) ≡ true
+  here-sound : sound_word size (get_or core pc 0) ≡ true
   here-sound = rw f.is at f.sound
 
-  read-two : (soundSeen size first && soundSeen size last) ≡ true
-  read-two = sym (every-join (soundWord size) first.seen last.seen) ∙ x.read
+  read-two : (sound_seen size first && sound_seen size last) ≡ true
+  read-two = sym (every-join (sound_word size) first.seen last.seen) ∙ x.read
 
-  pub sound-a : soundSeen size first ≡ true
-  sound-a = (both (soundSeen size first) (soundSeen size last) read-two).0
+  pub sound-a : sound_seen size first ≡ true
+  sound-a = (both (sound_seen size first) (sound_seen size last) read-two).0
 
-  pub sound-b : soundSeen size last ≡ true
-  sound-b = (both (soundSeen size first) (soundSeen size last) read-two).1
+  pub sound-b : sound_seen size last ≡ true
+  sound-b = (both (sound_seen size first) (sound_seen size last) read-two).1
 
-  pub still-sound : soundWord size (get_or first.core pc 0) ≡ true
+  pub still-sound : sound_word size (get_or first.core pc 0) ≡ true
   still-sound = sound-after rules core pc _ _ f.place f.valid sound-a pc here-sound
 
   pub long-a : length first.core ≡ size
   long-a = length-operand s core _ _ ∙ f.cells
 
   -- both registers are sound, and so are the cells at the B pointers
-  pub register-a : soundWord size (get_or first.seen 2 0) ≡ true
+  pub register-a : sound_word size (get_or first.seen 2 0) ≡ true
   register-a = register-sound rules core pc _ _ f.place f.valid sound-a
 
-  pub register-b : soundWord size (get_or last.seen 2 0) ≡ true
+  pub register-b : sound_word size (get_or last.seen 2 0) ≡ true
   register-b = register-sound rules first.core pc _ _ f.place f.valid sound-b
 
-  at_target : soundWord size (get_or last.core last.write 0) ≡ true
+  at_target : sound_word size (get_or last.core last.write 0) ≡ true
   at_target = target_sound rules first.core pc _ _ f.place f.valid sound-b
 
-  met-sound : (t : Bool) → soundWord size (get_or last.core (cond t last.read last.write) 0) ≡ true
+  met-sound : (t : Bool) → sound_word size (get_or last.core (cond t last.read last.write) 0) ≡ true
   met-sound true = live-sound rules first.core pc _ _ f.place f.valid sound-b
   met-sound false = at_target
 
@@ -107,7 +107,7 @@ module _ (rules : Rules) (core : List ℕ) (pc here : ℕ) (x : Executable rules
   met-below false = write-below rules first.core pc _ _ f.place
 
   -- the process goes on inside the core
-  places : Places (λ p. p < size) (effectAt s core).next
+  places : Places (λ p. p < size) (effect_at s core).next
   places =
       (effect-sound (scene_at s core) (read_below rules core pc _ _ f.place)
       (subst (Sound size) (register-whole rules core pc _ _) (sound-fields size _ register-a).1)
@@ -115,13 +115,13 @@ module _ (rules : Rules) (core : List ℕ) (pc here : ℕ) (x : Executable rules
       (sound-fields size _ at_target).1
       (fetched core pc).opcode).next
 
-  pub near : (w : ℕ) {r : Executed} → r ≡ answered (effectAt s core).next w → Near r
-  near w e = subst Near (sym e) (near_next f.valid (effectAt s core).next w places)
+  pub near : (w : ℕ) {r : Executed} → r ≡ answered (effect_at s core).next w → Near r
+  near w e = subst Near (sym e) (near_next f.valid (effect_at s core).next w places)
 
   few-opcodes : (fetched core pc).opcode < 17
   few-opcodes = let h : (fetched core pc).opcode ≤ 16 = rw f.is at x.few in omega arith
 
-  module _ (o : Operands) (c2 : List ℕ) (go : (o ≡ operandsAt s core) × (c2 ≡ last.core)) where
+  module _ (o : Operands) (c2 : List ℕ) (go : (o ≡ operands_at s core) × (c2 ≡ last.core)) where
     target_is : o.target.0 ≡ met
     target_is = ap (λ (p : Operands). p.target.0) go.0 ∙ by (compares (fetched core pc).opcode)
       where
@@ -158,17 +158,17 @@ module _ (rules : Rules) (core : List ℕ) (pc here : ℕ) (x : Executable rules
               place = f.place;
               below = met-below (compares (fetched core pc).opcode);
               live = met-sound (compares (fetched core pc).opcode);
-              soundA = register-a;
-              soundB = register-b;
+              sound_a = register-a;
+              sound_b = register-b;
               few = few;
             },
             x.few,
             (sound-fields size here f.sound).0,
           )
 
-      writes-sum : length (writtenAt s core) ≡ wa + wb + storeWrites (effectAt s core).cell
+      writes-sum : length (written_at s core) ≡ wa + wb + store_writes (effect_at s core).cell
       writes-sum =
-          let t = stored-writes (effectAt s core).cell last.write in
+          let t = stored-writes (effect_at s core).cell last.write in
           let p = wa-is in
           let q = wb-is in
           omega (arith, writes_at s core)
@@ -185,7 +185,7 @@ module _ (rules : Rules) (core : List ℕ) (pc here : ℕ) (x : Executable rules
           ≡ cond (compares (fetched core pc).opcode) (cell_at last.core last.read) (cell_at last.core last.write)
       live-is = rw (go.1, target_is) (cell-is (compares (fetched core pc).opcode))
 
-      effect_is : effect_of (fetched core pc).opcode coded ≡ effectAt s core
+      effect_is : effect_of (fetched core pc).opcode coded ≡ effect_at s core
       effect_is =
           (λ i. effect_of (fetched core pc).opcode
           (record {
@@ -201,16 +201,16 @@ module _ (rules : Rules) (core : List ℕ) (pc here : ℕ) (x : Executable rules
           ∙ one_cell size (fetched core pc).modifier pc first.read first.register last.register
           (cell_at last.core last.read) (cell_at last.core last.write) (fetched core pc).opcode few-opcodes
 
-      store_is : storeTo (effectAt s core).cell last.core met ≡ coreAt s core
+      store_is : store_to (effect_at s core).cell last.core met ≡ core_at s core
       store_is =
           one_store size (fetched core pc).modifier pc first.read first.register last.register
           (cell_at last.core last.read) (cell_at last.core last.write) last.core last.read last.write (fetched core pc).opcode few-opcodes
 
       pub done : (r : Executed) (l : List ℕ) → Does (unpacked here).opcode coded c2 o.target.0 (wa + wb) r l
-          → (r ≡ answered (effectAt s core).next (length (writtenAt s core))) × (l ≡ coreAt s core)
+          → (r ≡ answered (effect_at s core).next (length (written_at s core))) × (l ≡ core_at s core)
       done r l d =
           let k : Does (fetched core pc).opcode coded c2 o.target.0 (wa + wb) r l
           = subst (λ (w : ℕ). Does (unpacked w).opcode coded c2 o.target.0 (wa + wb) r l) f.is d in (
-            k.0 ∙ ap (λ (e : Effect). answered e.next (wa + wb + storeWrites e.cell)) effect_is ∙ ap (answered (effectAt s core).next) (sym writes-sum),
-            k.1 ∙ ap (λ (e : Effect). storeTo e.cell c2 o.target.0) effect_is ∙ rw (go.1, target_is) store_is,
+            k.0 ∙ ap (λ (e : Effect). answered e.next (wa + wb + store_writes e.cell)) effect_is ∙ ap (answered (effect_at s core).next) (sym writes-sum),
+            k.1 ∙ ap (λ (e : Effect). store_to e.cell c2 o.target.0) effect_is ∙ rw (go.1, target_is) store_is,
           )

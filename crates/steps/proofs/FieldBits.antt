@@ -9,18 +9,18 @@ use lib.Bits.{bit_and, and_mask, and_high}
 use Rattle.cell.specs.declared.Cell.{Cell}
 use Rattle.cell.specs.Cells.{packed, unpacked, number, with_number}
 use Rattle.cell.proofs.Words.{pack-unpack}
-use Rattle.word.specs.Words.{fieldBy}
-use Rattle.steps.specs.inner.Acts.{FirstBit}
+use Rattle.word.specs.Words.{field_by}
+use Rattle.steps.specs.Inner.Acts.{FirstBit}
 
 -- `(w >> bit) & 0xffff`
-pub number_is : (w bit : ℕ) → FirstBit bit → bit_and (w / 2 ^ bit) 65535 ≡ number (fieldBy bit) (unpacked w)
+pub number_is : (w bit : ℕ) → FirstBit bit → bit_and (w / 2 ^ bit) 65535 ≡ number (field_by bit) (unpacked w)
 number_is w bit f = and_mask (w / 2 ^ bit) 16 ∙ ⊎_elim (λ e. rw e (let h : w / 1 % 65536 ≡ w % 65536 = omega arith in h)) (λ e. rw e refl) f
 
 pub shifted-lt : (bit n : ℕ) → FirstBit bit → n < 65536 → n * 2 ^ bit < 2 ^ 32
 shifted-lt bit n f k = ⊎_elim (λ e. rw e (let q : n * 2 ^ 0 < 2 ^ 32 = omega arith in q)) (λ e. rw e (let q : n * 2 ^ 16 < 2 ^ 32 = omega arith in q)) f
 
 -- `w & 0xffff << bit`
-pub field_is : (w bit : ℕ) → FirstBit bit → bit_and w ((65535 * 2 ^ bit) % 2 ^ 64) ≡ number (fieldBy bit) (unpacked w) * 2 ^ bit
+pub field_is : (w bit : ℕ) → FirstBit bit → bit_and w ((65535 * 2 ^ bit) % 2 ^ 64) ≡ number (field_by bit) (unpacked w) * 2 ^ bit
 field_is w bit f =
     ⊎_elim (λ e. rw e (and_mask w 16 ∙ (let h : w % 65536 ≡ w % 65536 * 1 = omega arith in h))) (λ e. rw e (and_high w 16 16)) f
 
@@ -33,7 +33,7 @@ middle_field c a b n m w e f = omega arith
 
 -- the word without the number there, and with another one
 pub with-is : (w bit n : ℕ) → FirstBit bit → w < 2 ^ 46 → n < 65536
-    → w - number (fieldBy bit) (unpacked w) * 2 ^ bit + n * 2 ^ bit ≡ packed (with_number (fieldBy bit) n (unpacked w))
+    → w - number (field_by bit) (unpacked w) * 2 ^ bit + n * 2 ^ bit ≡ packed (with_number (field_by bit) n (unpacked w))
 with-is w bit n f h k =
     ⊎_elim (λ e. rw e (low ∙ last-field _ _ _ n _ w (pack-unpack w h) (mod-eq_of_lt k)))
     (λ e. rw e (middle ∙ middle_field _ _ _ n _ w (pack-unpack w h) (mod-eq_of_lt k))) f

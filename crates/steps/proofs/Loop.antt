@@ -10,15 +10,15 @@ use borrow.Author.Tests.{eqb-true, eqb-false}
 use Rattle.answer.specs.declared.Answer.{Answer}
 use Rattle.answer.specs.declared.Answer.TheVariants.{Done}
 use Rattle.answer.specs.Numbers.{Told, told}
-use Rattle.laws.specs.Lists.{oneIf}
+use Rattle.laws.specs.Lists.{one_if}
 use Rattle.machine.specs.declared.Ring.{Ring}
-use Rattle.machine.specs.State.{Machine, Outcome, toldBy, joined, and_then}
+use Rattle.machine.specs.State.{Machine, Outcome, told_by, joined, and_then}
 use Rattle.machine.specs.Step.{step, executed, executes}
 use Rattle.machine.proofs.Step.{step-by-cases, step_counts, step_value, step-writes-three}
-use Rattle.lent.specs.Given.{Given, given, givenBy}
+use Rattle.lent.specs.Given.{Given, given, given_by}
 use Rattle.steps.specs.declared.Ran.{Ran}
-use Rattle.steps.specs.inner.Queueing.{ringOf}
-use Rattle.steps.specs.inner.Ready.{Ready, step_of, playsOf, ranOf}
+use Rattle.steps.specs.Inner.Queueing.{ring_of}
+use Rattle.steps.specs.Inner.Ready.{Ready, step_of, plays_of, ran_of}
 use Rattle.steps.proofs.Naming.{naming, letters, ones, lettered, named, step-named, named-sound, unnamed-ready, sound-ready}
 
 -- what is known of up to k steps of a machine that is ready
@@ -44,7 +44,7 @@ module _ (m : Machine) (r : Ready m) where
       let c = step_counts plain in (
         c.0 ∙ ap (λ (k : ℕ). m.header.steps + k) (sym c.1),
         step-by-cases (λ o. o.writes ≤ o.steps * 3) plain (λ n v e x. omega arith) (λ e. step-writes-three plain),
-        λ z. (c.1 ∙ ap (λ (k : ℕ). oneIf (executes k)) z, step_value plain z),
+        λ z. (c.1 ∙ ap (λ (k : ℕ). one_if (executes k)) z, step_value plain z),
       )
 
   step-counted : Counted 1 m (step_of m)
@@ -58,11 +58,11 @@ module _ (m : Machine) (r : Ready m) where
       }
 
   -- one step is a run of one
-  pub as-run : givenBy (step_of m) ≡ givenBy (playsOf 1 m)
-  unfolding playsOf
+  pub as-run : given_by (step_of m) ≡ given_by (plays_of 1 m)
+  unfolding plays_of
   as-run = go (eqb (step_of m).number 0) refl
     where
-      go : (b : Bool) → eqb (step_of m).number 0 ≡ b → givenBy (step_of m) ≡ givenBy (cond b (joined (step_of m) (playsOf 0 (step_of m).machine)) (step_of m))
+      go : (b : Bool) → eqb (step_of m).number 0 ≡ b → given_by (step_of m) ≡ given_by (cond b (joined (step_of m) (plays_of 0 (step_of m).machine)) (step_of m))
       go false e = refl
       go true e =
           let z : (step_of m).number ≡ 0 = eqb-true _ _ e in λ i.
@@ -73,12 +73,12 @@ module _ (m : Machine) (r : Ready m) where
             machine = (step_of m).machine;
           }
 
-plays-counted : (k : ℕ) (m : Machine) → Ready m → Counted k m (playsOf k m)
-unfolding playsOf
+plays-counted : (k : ℕ) (m : Machine) → Ready m → Counted k m (plays_of k m)
+unfolding plays_of
 plays-counted zero m r = record { ready = r; steps = sym (add-zero m.header.steps); few = omega arith; all = λ z. (refl, refl) }
 plays-counted (suc k) m r = go (step-counted m r) (plays-counted k (step_of m).machine (step-counted m r).ready) (eqb (step_of m).number 0) refl
   where
-    go : Counted 1 m (step_of m) → Counted k (step_of m).machine (playsOf k (step_of m).machine) → (b : Bool) → eqb (step_of m).number 0 ≡ b → Counted (suc k) m (cond b (joined (step_of m) (playsOf k (step_of m).machine)) (step_of m))
+    go : Counted 1 m (step_of m) → Counted k (step_of m).machine (plays_of k (step_of m).machine) → (b : Bool) → eqb (step_of m).number 0 ≡ b → Counted (suc k) m (cond b (joined (step_of m) (plays_of k (step_of m).machine)) (step_of m))
     go s rest true e =
         let u = (s.all (eqb-true _ _ e)).0 in
         record {
@@ -90,8 +90,8 @@ plays-counted (suc k) m r = go (step-counted m r) (plays-counted k (step_of m).m
     go s rest false e = record { ready = s.ready; steps = s.steps; few = s.few; all = λ z. absurd (eqb-false (step_of m).number 0 e z) }
 
 -- steps after steps
-joined-done : (m : Machine) (o : Outcome) → o ≡ joined (playsOf 0 m) o
-unfolding playsOf
+joined-done : (m : Machine) (o : Outcome) → o ≡ joined (plays_of 0 m) o
+unfolding plays_of
 joined-done m o = λ i.
     record {
       machine = o.machine;
@@ -118,30 +118,30 @@ joined-then o r f = go (eqb r.number 0)
         }
     go false = refl
 
-plays-then : (j k : ℕ) (m : Machine) → playsOf (j + k) m ≡ and_then (playsOf j m) (playsOf k)
-unfolding playsOf
-plays-then zero k m = ap (λ (n : ℕ). playsOf n m) (zero-add k) ∙ joined-done m (playsOf k m)
-plays-then (suc j) k m = ap (λ (n : ℕ). playsOf n m) (more j k) ∙ go (plays-then j k (step_of m).machine) (eqb (step_of m).number 0) refl
+plays-then : (j k : ℕ) (m : Machine) → plays_of (j + k) m ≡ and_then (plays_of j m) (plays_of k)
+unfolding plays_of
+plays-then zero k m = ap (λ (n : ℕ). plays_of n m) (zero-add k) ∙ joined-done m (plays_of k m)
+plays-then (suc j) k m = ap (λ (n : ℕ). plays_of n m) (more j k) ∙ go (plays-then j k (step_of m).machine) (eqb (step_of m).number 0) refl
   where
     more : (j k : ℕ) → suc j + k ≡ suc (j + k)
     more j k = omega arith
 
-    go : playsOf (j + k) (step_of m).machine ≡ and_then (playsOf j (step_of m).machine) (playsOf k) → (b : Bool) → eqb (step_of m).number 0 ≡ b
-        → cond b (joined (step_of m) (playsOf (j + k) (step_of m).machine)) (step_of m)
-        ≡ and_then (cond b (joined (step_of m) (playsOf j (step_of m).machine)) (step_of m)) (playsOf k)
-    go h true e = ap (joined (step_of m)) h ∙ joined-then (step_of m) (playsOf j (step_of m).machine) (playsOf k)
+    go : plays_of (j + k) (step_of m).machine ≡ and_then (plays_of j (step_of m).machine) (plays_of k) → (b : Bool) → eqb (step_of m).number 0 ≡ b
+        → cond b (joined (step_of m) (plays_of (j + k) (step_of m).machine)) (step_of m)
+        ≡ and_then (cond b (joined (step_of m) (plays_of j (step_of m).machine)) (step_of m)) (plays_of k)
+    go h true e = ap (joined (step_of m)) h ∙ joined-then (step_of m) (plays_of j (step_of m).machine) (plays_of k)
     go h false e = simp e
 
 -- an outcome after so many writes and steps
 abbrev after : ℕ → ℕ → Outcome → Given
-after w n o = given (toldBy o) (w + o.writes) (n + o.steps) o.machine
+after w n o = given (told_by o) (w + o.writes) (n + o.steps) o.machine
 
 -- the loop at a machine, with the writes so far, from where it began
 pub record Going (ceiling : ℕ) (start m : Machine) (w : ℕ) : Type 0 where
   pub ready : Ready m
   pub since : start.header.steps ≤ m.header.steps
   pub few : w ≤ (m.header.steps - start.header.steps) * 3
-  pub same : after w (m.header.steps - start.header.steps) (playsOf (ceiling - m.header.steps) m) ≡ givenBy (playsOf (ceiling - start.header.steps) start)
+  pub same : after w (m.header.steps - start.header.steps) (plays_of (ceiling - m.header.steps) m) ≡ given_by (plays_of (ceiling - start.header.steps) start)
 
 pub begun : (ceiling : ℕ) (m : Machine) → Ready m → Going ceiling m m 0
 begun ceiling m r =
@@ -149,8 +149,8 @@ begun ceiling m r =
       ready = r;
       since = omega arith;
       few = omega arith;
-      same = ap₂ (λ (i j : ℕ). given (toldBy (playsOf (ceiling - m.header.steps) m)) i j (playsOf (ceiling - m.header.steps) m).machine)
-          (zero-add (playsOf (ceiling - m.header.steps) m).writes) (none m.header.steps (playsOf (ceiling - m.header.steps) m).steps);
+      same = ap₂ (λ (i j : ℕ). given (told_by (plays_of (ceiling - m.header.steps) m)) i j (plays_of (ceiling - m.header.steps) m).machine)
+          (zero-add (plays_of (ceiling - m.header.steps) m).writes) (none m.header.steps (plays_of (ceiling - m.header.steps) m).steps);
     }
   where
     none : (n k : ℕ) → n - n + k ≡ k
@@ -160,20 +160,20 @@ module _ {ceiling : ℕ} {start m : Machine} {w : ℕ} (g : Going ceiling start 
   abbrev steps : ℕ
   steps = m.header.steps - start.header.steps
 
-  pub over : ceiling ≤ m.header.steps → given (told Done) w steps m ≡ givenBy (playsOf (ceiling - start.header.steps) start)
-  unfolding playsOf
+  pub over : ceiling ≤ m.header.steps → given (told Done) w steps m ≡ given_by (plays_of (ceiling - start.header.steps) start)
+  unfolding plays_of
   over h =
       ap₂ (λ (i j : ℕ). given (told Done) i j m) (sym (add-zero w)) (sym (add-zero steps))
-      ∙ ap (λ (k : ℕ). after w steps (playsOf k m)) (none h)
+      ∙ ap (λ (k : ℕ). after w steps (plays_of k m)) (none h)
       ∙ g.same
     where
       none : ceiling ≤ m.header.steps → 0 ≡ ceiling - m.header.steps
       none q = omega arith
 
   -- up to k steps more
-  module _ (k : ℕ) (within : m.header.steps + k ≤ ceiling) {t : Told} {sw ss : ℕ} {n : Machine} (played : given t sw ss n ≡ givenBy (playsOf k m)) where
+  module _ (k : ℕ) (within : m.header.steps + k ≤ ceiling) {t : Told} {sw ss : ℕ} {n : Machine} (played : given t sw ss n ≡ given_by (plays_of k m)) where
     abbrev o : Outcome
-    o = playsOf k m
+    o = plays_of k m
 
     counted : Counted k m o
     counted = plays-counted k m g.ready
@@ -204,16 +204,16 @@ module _ {ceiling : ℕ} {start m : Machine} {w : ℕ} (g : Going ceiling start 
     abbrev left : ℕ
     left = ceiling - (m.header.steps + k)
 
-    split : playsOf (ceiling - m.header.steps) m ≡ and_then o (playsOf left)
-    split = ap (λ (j : ℕ). playsOf j m) parts ∙ plays-then k left m
+    split : plays_of (ceiling - m.header.steps) m ≡ and_then o (plays_of left)
+    split = ap (λ (j : ℕ). plays_of j m) parts ∙ plays-then k left m
       where
         parts : ceiling - m.header.steps ≡ k + left
         parts = omega arith
 
-    pub stopped : eqb t.number 0 ≡ false → given t (w + sw) (n.header.steps - start.header.steps) n ≡ givenBy (playsOf (ceiling - start.header.steps) start)
+    pub stopped : eqb t.number 0 ≡ false → given t (w + sw) (n.header.steps - start.header.steps) n ≡ given_by (plays_of (ceiling - start.header.steps) start)
     stopped e =
         (λ i. given (played i).told (w + writes_are i) (rises i) (next-is i))
-        ∙ ap (λ (b : Bool). after w steps (cond b (joined o (playsOf left o.machine)) o)) (sym (ap (λ (j : ℕ). eqb j 0) (sym number_is) ∙ e))
+        ∙ ap (λ (b : Bool). after w steps (cond b (joined o (plays_of left o.machine)) o)) (sym (ap (λ (j : ℕ). eqb j 0) (sym number_is) ∙ e))
         ∙ ap (after w steps) (sym split) ∙ g.same
 
     module _ (e : eqb t.number 0 ≡ true) where
@@ -224,7 +224,7 @@ module _ {ceiling : ℕ} {start m : Machine} {w : ℕ} (g : Going ceiling start 
       reaches = further ∙ ap (λ (j : ℕ). m.header.steps + j) (counted.all is_zero).0
 
       joined_is : (r : Outcome) → after (w + o.writes) (steps + o.steps) r ≡ after w steps (joined o r)
-      joined_is r = ap₂ (λ (i j : ℕ). given (toldBy r) i j r.machine) (add_assoc w o.writes r.writes) (add_assoc steps o.steps r.steps)
+      joined_is r = ap₂ (λ (i j : ℕ). given (told_by r) i j r.machine) (add_assoc w o.writes r.writes) (add_assoc steps o.steps r.steps)
 
       pub again : Going ceiling start n (w + sw)
       again =
@@ -233,13 +233,13 @@ module _ {ceiling : ℕ} {start m : Machine} {w : ℕ} (g : Going ceiling start 
             since = onward;
             few = few-writes;
             same =
-                (λ i. after (w + writes_are i) (rises i) (playsOf (ceiling - reaches i) (next-is i)))
-                ∙ joined_is (playsOf left o.machine)
-                ∙ ap (λ (b : Bool). after w steps (cond b (joined o (playsOf left o.machine)) o)) (sym (ap (λ (j : ℕ). eqb j 0) is_zero))
+                (λ i. after (w + writes_are i) (rises i) (plays_of (ceiling - reaches i) (next-is i)))
+                ∙ joined_is (plays_of left o.machine)
+                ∙ ap (λ (b : Bool). after w steps (cond b (joined o (plays_of left o.machine)) o)) (sym (ap (λ (j : ℕ). eqb j 0) is_zero))
                 ∙ ap (after w steps) (sym split) ∙ g.same;
           }
 
 -- what a run gives back, put together with the parts that it leaves
-pub giving : (build : Ring → ℕ → Machine) (b : ℕ) {r : Ran} {answer : Answer} {w h l t : ℕ} {X : Given} → r ≡ ranOf answer w h l b t
-    → given (told answer) w (t - b) (build (ringOf h l) t) ≡ X → given (told r.answer) r.writes r.steps (build r.ring r.taken) ≡ X
+pub giving : (build : Ring → ℕ → Machine) (b : ℕ) {r : Ran} {answer : Answer} {w h l t : ℕ} {X : Given} → r ≡ ran_of answer w h l b t
+    → given (told answer) w (t - b) (build (ring_of h l) t) ≡ X → given (told r.answer) r.writes r.steps (build r.ring r.taken) ≡ X
 giving build b e x = ap (λ (s : Ran). given (told s.answer) s.writes s.steps (build s.ring s.taken)) e ∙ x

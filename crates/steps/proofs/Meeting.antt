@@ -8,7 +8,7 @@ use Rattle.laws.proofs.Numbers.{below}
 use Rattle.laws.proofs.Every.{◌and◌}
 use Rattle.cell.specs.declared.Cell.{Cell}
 use Rattle.machine.specs.Execution.{Scene, effect_of}
-use Rattle.machine.specs.Instruction.{storeTo}
+use Rattle.machine.specs.Instruction.{store_to}
 use Rattle.chain.specs.Operands.{compares}
 
 module _ (size modifier pc jump : ℕ) (ra rb : Cell) where
@@ -42,7 +42,7 @@ module _ (size modifier pc jump : ℕ) (ra rb : Cell) where
 
   -- a comparison stores nothing
   pub one_store : (live target : Cell) (core : List ℕ) (p q : ℕ) (op : ℕ) → op < 17
-      → storeTo (effect_of op (scene live target)).cell core (cond (compares op) p q) ≡ storeTo (effect_of op (scene live target)).cell core q
+      → store_to (effect_of op (scene live target)).cell core (cond (compares op) p q) ≡ store_to (effect_of op (scene live target)).cell core q
   unfolding effect_of
   one_store live target core p q =
       below _ 17

@@ -10,7 +10,7 @@ use lib.ListN.{length, take, replicate}
 use Rattle.laws.specs.Lists.{every, distinct}
 use Rattle.laws.proofs.Numbers.{below}
 use Rattle.laws.proofs.Every.{◌and◌}
-use Rattle.metadata.specs.Metadata.{validByte}
+use Rattle.metadata.specs.Metadata.{valid_byte}
 use Rattle.machine.specs.declared.Ceiling.TheVariants.{Steps}
 use Rattle.machine.specs.declared.Entry.{Entry}
 use Rattle.machine.specs.declared.Roster.{Roster}
@@ -18,16 +18,16 @@ use Rattle.machine.specs.declared.Rules.{Rules}
 use Rattle.machine.specs.State.{Machine, Outcome, joined, and_then, Verdict, accepted, refusal, first, settle}
 use Rattle.machine.specs.Names.{names, numbered}
 use Rattle.machine.specs.Queue.{entry, full, pop, push, started}
-use Rattle.machine.specs.Soundness.{soundHeader, soundEntry}
+use Rattle.machine.specs.Soundness.{sound_header, sound_entry}
 use Rattle.machine.specs.Execution.{Next, ends, goes, splits}
-use Rattle.machine.specs.Step.{popped, effect, coreAfter, stepWritten, counted, Queued, queued, nextChecks, stepChecks, executed, step}
+use Rattle.machine.specs.Step.{popped, effect, core_after, step_written, counted, Queued, queued, next_checks, step_checks, executed, step}
 use Rattle.machine.specs.Run.{plays, run}
 use Rattle.machine.proofs.Names.{Shape}
 use Rattle.machine.proofs.Soundness.{SoundHeader, is-taken, takes, tested, sound-header, header-sound}
 use Rattle.machine.proofs.Step.{step-sound}
 use Rattle.machine.proofs.Run.{run-plays}
 use Rattle.lent.specs.Parts.{names_of, parts}
-use Rattle.steps.specs.inner.Ready.{Ready, step_of, playsOf}
+use Rattle.steps.specs.Inner.Ready.{Ready, step_of, plays_of}
 
 -- the same machine with names, as many
 abbrev pub naming : List ℕ → List ℕ → Machine → Machine
@@ -37,26 +37,26 @@ naming bytes lengths m =
 
 -- a sound header, with arrays of their lengths
 pub record Sound (m : Machine) : Type 0 where
-  pub header : soundHeader m ≡ true
+  pub header : sound_header m ≡ true
   pub names : length m.header.names.bytes ≡ 512
   pub lengths : length m.header.names.lengths ≡ 16
   pub counts : length m.header.counts ≡ 16
   pub threads : length m.header.threads ≡ 16
 
 -- sixteen names of one letter
-abbrev slotsFrom : ℕ → ℕ → List ℕ
-slotsFrom letter zero = []
-slotsFrom letter (suc n) = letter ∷ (replicate 31 0 ++ slotsFrom (suc letter) n)
+abbrev slots_from : ℕ → ℕ → List ℕ
+slots_from letter zero = []
+slots_from letter (suc n) = letter ∷ (replicate 31 0 ++ slots_from (suc letter) n)
 
 abbrev pub letters : List ℕ
-letters = slotsFrom 65 16
+letters = slots_from 65 16
 
 abbrev pub ones : List ℕ
 ones = replicate 16 1
 
 letters-valid : (held : ℕ) → held < 17
     → (every (λ k. leb 1 k && leb k 32) (take held ones) ≡ true)
-    × (every (every validByte) (names (names_of held letters ones)) ≡ true)
+    × (every (every valid_byte) (names (names_of held letters ones)) ≡ true)
     × (distinct (names (names_of held letters ones)) ≡ true)
 letters-valid =
     below _ 17
@@ -162,19 +162,19 @@ module _ (bytes lengths : List ℕ) where
   named o = record { machine = naming bytes lengths o.machine; number = o.number; value = o.value; writes = o.writes; steps = o.steps; pushes = o.pushes }
 
   executed-named : (m : Machine) → executed (naming bytes lengths m) ≡ named (executed m)
-  unfolding executed effect coreAfter stepWritten counted pop
-  executed-named m = ap put (queued-within (coreAfter m) m.header.rules (m.header.steps + 1) (names_of m.header.names.held bytes lengths) (effect m).next (popped m) (pop m))
-      ∙ sym (ap (λ (q : Queued). named (put q)) (queued-within (coreAfter m) m.header.rules (m.header.steps + 1) m.header.names (effect m).next (popped m) (pop m)))
+  unfolding executed effect core_after step_written counted pop
+  executed-named m = ap put (queued-within (core_after m) m.header.rules (m.header.steps + 1) (names_of m.header.names.held bytes lengths) (effect m).next (popped m) (pop m))
+      ∙ sym (ap (λ (q : Queued). named (put q)) (queued-within (core_after m) m.header.rules (m.header.steps + 1) m.header.names (effect m).next (popped m) (pop m)))
     where
       put : Queued → Outcome
       put q = record { machine = q.machine; number = (executed m).number; value = (executed m).value; writes = (executed m).writes; steps = 1; pushes = q.pushes }
 
   pub step-named : (m : Machine) → Sound (naming bytes lengths m) → step (naming bytes lengths m) ≡ named (step_of m)
-  unfolding step step_of soundEntry
+  unfolding step step_of sound_entry
   step-named m s =
-      ap (λ (v : Verdict). settle v (naming bytes lengths m) (executed (naming bytes lengths m))) (checks s.header) ∙ ap (settle (first (nextChecks m)) (naming bytes lengths m)) (executed-named m) ∙ settled (first (nextChecks m))
+      ap (λ (v : Verdict). settle v (naming bytes lengths m) (executed (naming bytes lengths m))) (checks s.header) ∙ ap (settle (first (next_checks m)) (naming bytes lengths m)) (executed-named m) ∙ settled (first (next_checks m))
     where
-      checks : soundHeader (naming bytes lengths m) ≡ true → first (stepChecks (naming bytes lengths m)) ≡ first (nextChecks m)
+      checks : sound_header (naming bytes lengths m) ≡ true → first (step_checks (naming bytes lengths m)) ≡ first (next_checks m)
       checks e = simp e
 
       settled : (v : Verdict) → settle v (naming bytes lengths m) (named (executed m)) ≡ named (settle v m (executed m))
@@ -185,18 +185,18 @@ module _ (bytes lengths : List ℕ) where
   named-sound m s =
       all_sound _ (subst (λ (o : Outcome). SoundHeader o.machine) (step-named m s) (step-sound _ (sound-all (naming bytes lengths m) s)))
 
-  plays-named : (k : ℕ) (m : Machine) → Sound (naming bytes lengths m) → plays k (naming bytes lengths m) ≡ named (playsOf k m)
-  unfolding playsOf
+  plays-named : (k : ℕ) (m : Machine) → Sound (naming bytes lengths m) → plays k (naming bytes lengths m) ≡ named (plays_of k m)
+  unfolding plays_of
   plays-named zero m s = refl
   plays-named (suc k) m s =
       ap (λ (o : Outcome). and_then o (plays k)) (step-named m s)
       ∙ ap (λ (r : Outcome). cond (eqb (step_of m).number 0) (joined (named (step_of m)) r) (named (step_of m))) (plays-named k (step_of m).machine (named-sound m s))
       ∙ either (eqb (step_of m).number 0)
     where
-      either : (b : Bool) → cond b (joined (named (step_of m)) (named (playsOf k (step_of m).machine))) (named (step_of m)) ≡ named (cond b (joined (step_of m) (playsOf k (step_of m).machine)) (step_of m))
+      either : (b : Bool) → cond b (joined (named (step_of m)) (named (plays_of k (step_of m).machine))) (named (step_of m)) ≡ named (cond b (joined (step_of m) (plays_of k (step_of m).machine)) (step_of m))
       either true = refl
       either false = refl
 
   -- a run beside names with which the header is sound
-  pub run-named : (ceiling : ℕ) (m : Machine) → Sound (naming bytes lengths m) → run (Steps ceiling) (naming bytes lengths m) ≡ named (playsOf (ceiling - m.header.steps) m)
+  pub run-named : (ceiling : ℕ) (m : Machine) → Sound (naming bytes lengths m) → run (Steps ceiling) (naming bytes lengths m) ≡ named (plays_of (ceiling - m.header.steps) m)
   run-named ceiling m s = run-plays (Steps ceiling) (naming bytes lengths m) s.header ∙ plays-named (ceiling - m.header.steps) m s

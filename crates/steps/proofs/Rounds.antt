@@ -14,11 +14,11 @@ use Rattle.cell.specs.Cells.{unpacked}
 use Rattle.cell.proofs.Soundness.{sound-fields}
 use Rattle.machine.specs.State.{Machine}
 use Rattle.machine.specs.Step.{pc, executed}
-use Rattle.lent.specs.Parts.{queueOf}
-use Rattle.lent.specs.Given.{Given, given, givenBy}
-use Rattle.steps.specs.inner.Instruction.{Executable}
-use Rattle.steps.specs.inner.Queueing.{tailOf, Front}
-use Rattle.steps.specs.inner.Ready.{Ready, step_of, playsOf, Playable, Scanned}
+use Rattle.lent.specs.Parts.{queue_of}
+use Rattle.lent.specs.Given.{Given, given, given_by}
+use Rattle.steps.specs.Inner.Instruction.{Executable}
+use Rattle.steps.specs.Inner.Queueing.{tail_of, Front}
+use Rattle.steps.specs.Inner.Ready.{Ready, step_of, plays_of, Playable, Scanned}
 use Rattle.steps.proofs.Answers.{step_left, here-sound, fetches, front-is, private-step, executable, executed-step}
 use Rattle.steps.proofs.Trust.{Playing, playable, plays-on}
 use Rattle.steps.proofs.Loop.{Going, as-run, onward, few-writes, stopped, reaches, again}
@@ -27,7 +27,7 @@ use Rattle.steps.proofs.Loop.{Going, as-run, onward, few-writes, stopped, reache
 pub record Round (until : ℕ) (start m : Machine) (w tail : ℕ) : Type 0 where
   pub going : Going until start m w
   pub playing : Playing until m
-  pub behind : tail ≡ tailOf m
+  pub behind : tail ≡ tail_of m
   pub counted : m.header.steps ≤ 4294967295
 
 module _ {until : ℕ} {start m : Machine} {w tail : ℕ} (g : Round until start m w tail) (below : m.header.steps < until) where
@@ -51,7 +51,7 @@ module _ {until : ℕ} {start m : Machine} {w tail : ℕ} (g : Round until start
     opcode-is : op ≡ (unpacked (get_or m.core (pc m) 0)).opcode
     opcode-is = is ∙ ap (λ (c : ℕ). (unpacked c).opcode) fetched
 
-    pub private-stops : 16 < op → given (told PrivateMemory) w (m.header.steps - start.header.steps) m ≡ givenBy (playsOf (until - start.header.steps) start)
+    pub private-stops : 16 < op → given (told PrivateMemory) w (m.header.steps - start.header.steps) m ≡ given_by (plays_of (until - start.header.steps) start)
     private-stops h =
         ap (λ (i : ℕ). given (told PrivateMemory) i (m.header.steps - start.header.steps) m) (sym (add-zero w))
         ∙ stopped g.going 1 one-within (private-step m g.going.ready can-play (subst (λ (n : ℕ). 16 < n) opcode-is h) ∙ as-run m g.going.ready) refl
@@ -60,17 +60,17 @@ module _ {until : ℕ} {start m : Machine} {w tail : ℕ} (g : Round until start
       few-is : (unpacked (get_or m.core (pc m) 0)).opcode ≤ 16
       few-is = subst (λ (n : ℕ). n ≤ 16) opcode-is few
 
-      pub can-step : Front (queueOf m.queue m.header.ring m.header.counts m.header.threads) tail × Executable m.header.rules m.core (pc m) cell
+      pub can-step : Front (queue_of m.queue m.header.ring m.header.counts m.header.threads) tail × Executable m.header.rules m.core (pc m) cell
       can-step = (
         front-is m g.going.ready can-play g.behind,
         subst (Executable m.header.rules m.core (pc m)) (sym fetched) (executable m g.going.ready can-play few-is),
       )
 
-      module _ {t : Told} {sw : ℕ} {n : Machine} (done : given t sw 1 n ≡ givenBy (executed m)) where
-        one-step : given t sw 1 n ≡ givenBy (step_of m)
+      module _ {t : Told} {sw : ℕ} {n : Machine} (done : given t sw 1 n ≡ given_by (executed m)) where
+        one-step : given t sw 1 n ≡ given_by (step_of m)
         one-step = done ∙ executed-step m g.going.ready can-play few-is
 
-        played : given t sw 1 n ≡ givenBy (playsOf 1 m)
+        played : given t sw 1 n ≡ given_by (plays_of 1 m)
         played = one-step ∙ as-run m g.going.ready
 
         pub writes-few : w + sw ≤ (n.header.steps - start.header.steps) * 3
@@ -79,10 +79,10 @@ module _ {until : ℕ} {start m : Machine} {w tail : ℕ} (g : Round until start
         pub since-start : start.header.steps ≤ n.header.steps
         since-start = onward g.going 1 one-within played
 
-        pub step-stops : eqb t.number 0 ≡ false → given t (w + sw) (n.header.steps - start.header.steps) n ≡ givenBy (playsOf (until - start.header.steps) start)
+        pub step-stops : eqb t.number 0 ≡ false → given t (w + sw) (n.header.steps - start.header.steps) n ≡ given_by (plays_of (until - start.header.steps) start)
         step-stops e = stopped g.going 1 one-within played e
 
-        pub goes-round : eqb t.number 0 ≡ true → {tail' : ℕ} → tail' ≡ tailOf n → Round until start n (w + sw) tail'
+        pub goes-round : eqb t.number 0 ≡ true → {tail' : ℕ} → tail' ≡ tail_of n → Round until start n (w + sw) tail'
         goes-round e b =
             let s = reaches g.going 1 one-within played e in
             let h = can-count in
@@ -99,7 +99,7 @@ Trusting ceiling m trusted = m.header.steps < ceiling → trusted ≡ true → S
 
 -- a call of the outer loop plays all steps up to the ceiling where the record is trusted, else one
 module _ {ceiling : ℕ} {start m : Machine} {w : ℕ} (g : Going ceiling start m w) (below : m.header.steps < ceiling) (trusted : Bool)
-    {t : Told} {sw ss : ℕ} {n : Machine} (played : given t sw ss n ≡ givenBy (playsOf (cond trusted ceiling (m.header.steps + 1) - m.header.steps) m)) where
+    {t : Told} {sw ss : ℕ} {n : Machine} (played : given t sw ss n ≡ given_by (plays_of (cond trusted ceiling (m.header.steps + 1) - m.header.steps) m)) where
   abbrev called : ℕ
   called = cond trusted ceiling (m.header.steps + 1) - m.header.steps
 
@@ -116,7 +116,7 @@ module _ {ceiling : ℕ} {start m : Machine} {w : ℕ} (g : Going ceiling start 
   pub call-since : start.header.steps ≤ n.header.steps
   call-since = onward g called inside.0 played
 
-  pub call-stops : eqb t.number 0 ≡ false → given t (w + sw) (n.header.steps - start.header.steps) n ≡ givenBy (playsOf (ceiling - start.header.steps) start)
+  pub call-stops : eqb t.number 0 ≡ false → given t (w + sw) (n.header.steps - start.header.steps) n ≡ given_by (plays_of (ceiling - start.header.steps) start)
   call-stops e = stopped g called inside.0 played e
 
   module _ (e : eqb t.number 0 ≡ true) where
@@ -130,11 +130,11 @@ module _ {ceiling : ℕ} {start m : Machine} {w : ℕ} (g : Going ceiling start 
     call-trusting h z = absurd (let r = reaches g called inside.0 played e ∙ ap (λ (b : Bool). m.header.steps + (cond b ceiling (m.header.steps + 1) - m.header.steps)) z in omega arith)
 
 -- a refusal that was asked
-pub refused-call : (ceiling : ℕ) (m : Machine) → Ready m → {t : Told} {trusted : Bool} → (trusted ≡ false) × (given t 0 0 m ≡ givenBy (step_of m))
-    → given t 0 (m.header.steps - m.header.steps) m ≡ givenBy (playsOf (cond trusted ceiling (m.header.steps + 1) - m.header.steps) m)
+pub refused-call : (ceiling : ℕ) (m : Machine) → Ready m → {t : Told} {trusted : Bool} → (trusted ≡ false) × (given t 0 0 m ≡ given_by (step_of m))
+    → given t 0 (m.header.steps - m.header.steps) m ≡ given_by (plays_of (cond trusted ceiling (m.header.steps + 1) - m.header.steps) m)
 refused-call ceiling m r {t} p =
-    ap (λ (k : ℕ). given t 0 k m) (none m.header.steps) ∙ p.1 ∙ as-run m r ∙ ap (λ (k : ℕ). givenBy (playsOf k m)) (one m.header.steps)
-    ∙ ap (λ (b : Bool). givenBy (playsOf (cond b ceiling (m.header.steps + 1) - m.header.steps) m)) (sym p.0)
+    ap (λ (k : ℕ). given t 0 k m) (none m.header.steps) ∙ p.1 ∙ as-run m r ∙ ap (λ (k : ℕ). given_by (plays_of k m)) (one m.header.steps)
+    ∙ ap (λ (b : Bool). given_by (plays_of (cond b ceiling (m.header.steps + 1) - m.header.steps) m)) (sym p.0)
   where
     none : (k : ℕ) → k - k ≡ 0
     none k = omega arith

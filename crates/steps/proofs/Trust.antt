@@ -10,16 +10,16 @@ use borrow.Author.Tests.{eqb-true, lt-ltb}
 use Rattle.laws.proofs.Every.{◌and◌}
 use Rattle.answer.specs.declared.Answer.{Answer}
 use Rattle.answer.specs.Numbers.{Told, told, gives}
-use Rattle.machine.specs.State.{Machine, Outcome, Verdict, accepted, refusal, first, settle, verdictTold}
+use Rattle.machine.specs.State.{Machine, Outcome, Verdict, accepted, refusal, first, settle, verdict_told}
 use Rattle.machine.specs.Queue.{entries}
-use Rattle.machine.specs.Soundness.{soundEntry}
-use Rattle.machine.specs.Step.{nextChecks, stepChecks, executed, step}
+use Rattle.machine.specs.Soundness.{sound_entry}
+use Rattle.machine.specs.Step.{next_checks, step_checks, executed, step}
 use Rattle.machine.proofs.Checks.{number_of}
-use Rattle.lent.specs.Given.{given, givenBy}
+use Rattle.lent.specs.Given.{given, given_by}
 use Rattle.refusal.specs.Checks as check
 use Rattle.scan.specs.Scanning.{scanned}
 use Rattle.scan.proofs.Trusting.{Trusted, scan-trusts, trusted-step, only-ten, step-leaves}
-use Rattle.steps.specs.inner.Ready.{Ready, Playable, Scanned, Plays, step_of}
+use Rattle.steps.specs.Inner.Ready.{Ready, Playable, Scanned, Plays, step_of}
 use Rattle.steps.proofs.Naming.{naming, letters, ones, lettered, sound-all, named, step-named}
 
 -- the steps left of a scanned record are trusted beside the sixteen names of one letter; else the one step is
@@ -33,7 +33,7 @@ module _ (ceiling : ℕ) (m : Machine) (r : Ready m) where
   plain = naming letters ones m
 
   scanned-beside : (k : ℕ) → scanned k m ≡ true → scanned k plain ≡ true
-  unfolding scanned soundEntry entries
+  unfolding scanned sound_entry entries
   scanned-beside k e = e
 
   pub plays-first : Plays ceiling m → Playing ceiling m
@@ -51,8 +51,8 @@ module _ (ceiling : ℕ) (m : Machine) (r : Ready m) where
         go zero e = absurd (omega arith)
         go (suc k) e = f k e (subst (λ (j : ℕ). Trusted j plain) e t)
 
-    checks-are : first (stepChecks plain) ≡ first (nextChecks m)
-    unfolding soundEntry
+    checks-are : first (step_checks plain) ≡ first (next_checks m)
+    unfolding sound_entry
     checks-are = let h = (lettered m r).header in simp h
 
     pub playable : Playing ceiling m → Playable m
@@ -77,10 +77,10 @@ module _ (ceiling : ℕ) (m : Machine) (r : Ready m) where
 
 -- the next step, asked whether it is refused unless the record is trusted
 module _ (ceiling : ℕ) (m : Machine) (r : Ready m) (trusted : Bool) (answer : Answer) (asked : told answer ≡ cond trusted (gives 0 0) (check.refused m)) where
-  bounds-are : check.inBounds m ≡ true
+  bounds-are : check.in_bounds m ≡ true
   bounds-are = let t = r.taken in let h = lt-ltb _ _ r.head in simp (t, h)
 
-  verdict-is : check.refused m ≡ verdictTold (first (nextChecks m))
+  verdict-is : check.refused m ≡ verdict_told (first (next_checks m))
   unfolding check.refused
   verdict-is = let w = bounds-are in simp w
 
@@ -95,21 +95,21 @@ module _ (ceiling : ℕ) (m : Machine) (r : Ready m) (trusted : Bool) (answer : 
             refl,
             record {
               only = λ n v f.
-                  let z : n ≡ 0 = sym (ap (λ (t : Told). t.number) (a ∙ verdict-is ∙ ap verdictTold f)) ∙ eqb-true (told answer).number 0 e in
+                  let z : n ≡ 0 = sym (ap (λ (t : Told). t.number) (a ∙ verdict-is ∙ ap verdict_told f)) ∙ eqb-true (told answer).number 0 e in
                   absurd
-                  (number_of (λ k. k ≡ 0 → ⊥) (nextChecks m)
+                  (number_of (λ k. k ≡ 0 → ⊥) (next_checks m)
                   ((λ q. omega arith) and (λ q. omega arith) and (λ q. omega arith) and (λ q. omega arith) and (λ q. omega arith) and (λ q. omega arith) and tt) n v f z);
             },
           )
 
-  pub is-refused : eqb (told answer).number 0 ≡ false → (trusted ≡ false) × (given (told answer) 0 0 m ≡ givenBy (step_of m))
+  pub is-refused : eqb (told answer).number 0 ≡ false → (trusted ≡ false) × (given (told answer) 0 0 m ≡ given_by (step_of m))
   unfolding step_of
   is-refused e = go trusted refl asked
     where
-      settled : (v : Verdict) → first (nextChecks m) ≡ v → told answer ≡ verdictTold v → given (told answer) 0 0 m ≡ givenBy (settle v m (executed m))
+      settled : (v : Verdict) → first (next_checks m) ≡ v → told answer ≡ verdict_told v → given (told answer) 0 0 m ≡ given_by (settle v m (executed m))
       settled accepted f t = absurd (true≢false (sym (ap (λ (k : Told). eqb k.number 0) t) ∙ e))
       settled (refusal n v) f t = ap (λ (k : Told). given k 0 0 m) t
 
-      go : (t : Bool) → trusted ≡ t → told answer ≡ cond t (gives 0 0) (check.refused m) → (trusted ≡ false) × (given (told answer) 0 0 m ≡ givenBy (settle (first (nextChecks m)) m (executed m)))
+      go : (t : Bool) → trusted ≡ t → told answer ≡ cond t (gives 0 0) (check.refused m) → (trusted ≡ false) × (given (told answer) 0 0 m ≡ given_by (settle (first (next_checks m)) m (executed m)))
       go true f a = absurd (true≢false (sym (ap (λ (k : Told). eqb k.number 0) a) ∙ e))
-      go false f a = (f, settled (first (nextChecks m)) refl (a ∙ verdict-is))
+      go false f a = (f, settled (first (next_checks m)) refl (a ∙ verdict-is))

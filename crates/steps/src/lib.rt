@@ -6,7 +6,7 @@ ghost use Rattle.answer.specs.Numbers.{told};
 ghost use Rattle.machine.specs.declared.Ceiling.TheVariants.{Steps};
 ghost use Rattle.machine.specs.Run as spec;
 ghost use Rattle.lent.specs.Parts.{names_of, parts};
-ghost use Rattle.lent.specs.Given.{given, givenBy};
+ghost use Rattle.lent.specs.Given.{given, given_by};
 
 use crate::running::run_loop;
 use answer::Answer;
@@ -48,7 +48,7 @@ pub fn run_parts<'a>(
 ) -> Ran
     ensures { given (told result.answer) result.writes result.steps
         (parts core.new queue.new rules result.ring result.taken (names_of held names.now lengths.now) counts.new threads.new)
-        ≡ givenBy (spec.run (Steps ceiling) (parts core.old queue.old rules ring taken (names_of held names.now lengths.now) counts.old threads.old)) }
+        ≡ given_by (spec.run (Steps ceiling) (parts core.old queue.old rules ring taken (names_of held names.now lengths.now) counts.old threads.old)) }
 {
     if !sound_header(core, queue, rules, ring, held, names, lengths, counts) {
         return Ran {

@@ -1,9 +1,9 @@
 // Which number fields meet, by modifier, and the numbers in them (01, 'One step').
 ghost use Rattle.std.specs.Prelude.{◌≡◌, ◌^◌, ◌<◌, ◌≤◌};
-ghost use Rattle.types.specs.Types.{fieldPairs};
+ghost use Rattle.types.specs.Types.{field_pairs};
 ghost use Rattle.cell.specs.Cells.{packed, unpacked, number, with_number};
-ghost use Rattle.word.specs.Words.{fieldBy};
-ghost use Rattle.steps.specs.inner.Acts.{FirstBit, metOf};
+ghost use Rattle.word.specs.Words.{field_by};
+ghost use Rattle.steps.specs.Inner.Acts.{FirstBit, met_of};
 
 use offset::Relative;
 
@@ -18,7 +18,7 @@ pub(crate) fn modifier(w: u64) -> u8
 // The number in the field that begins at a bit: 16 is the A field's, 0 the B field's.
 pub(crate) fn number_at(w: u64, bit: u64) -> Relative
     requires { FirstBit bit }
-    ensures { result.0 ≡ number (fieldBy bit) (unpacked w) }
+    ensures { result.0 ≡ number (field_by bit) (unpacked w) }
 {
     let n = ((w >> bit) & 0xffff) as u32;
     Relative(n)
@@ -27,7 +27,7 @@ pub(crate) fn number_at(w: u64, bit: u64) -> Relative
 // The word of a sound cell with another number in that field.
 pub(crate) fn with_number_at(w: u64, bit: u64, n: Relative) -> u64
     requires { FirstBit bit × (w < 2 ^ 46) × (n.0 < 65536) }
-    ensures { result ≡ packed (with_number (fieldBy bit) n.0 (unpacked w)) }
+    ensures { result ≡ packed (with_number (field_by bit) n.0 (unpacked w)) }
 {
     let mask = 0xffff << bit;
     let rest = w - (w & mask);
@@ -47,8 +47,8 @@ pub(crate) struct Met {
 
 // The numbers of both registers that meet.
 pub(crate) fn meet(pairs: &[[u64; 4]; 7], modifier: u8, ra: u64, rb: u64) -> Met
-    requires { (pairs.now ≡ fieldPairs) × (modifier ≤ 6) }
-    ensures { result ≡ metOf modifier ra rb }
+    requires { (pairs.now ≡ field_pairs) × (modifier ≤ 6) }
+    ensures { result ≡ met_of modifier ra rb }
 {
     let i = modifier as usize;
     let row = pairs[i];

@@ -1,10 +1,10 @@
 // What each opcode does with its registers (01, 'One step').
 ghost use Rattle.std.specs.Prelude.{◌≡◌, cond, not, ◌&&◌, ◌||◌, ◌<◌, ◌≤◌, ◌/◌, ◌%◌, ◌^◌, eqb, ltb, get_or};
 ghost use Rattle.std.proofs.Math.Option.{some};
-ghost use Rattle.types.specs.Types.{fieldPairs};
+ghost use Rattle.types.specs.Types.{field_pairs};
 ghost use Rattle.cell.specs.Cells.{packed, unpacked, with_number};
-ghost use Rattle.word.specs.Words.{fieldBy};
-ghost use Rattle.steps.specs.inner.Acts.{copy_of, FirstBit, scene_of, valueBy, SoundScene, Answers, Does};
+ghost use Rattle.word.specs.Words.{field_by};
+ghost use Rattle.steps.specs.Inner.Acts.{copy_of, FirstBit, scene_of, value_by, SoundScene, Answers, Does};
 
 use crate::modifier::{Met, meet, modifier, with_number_at};
 use offset::{Absolute, Relative, add, plus};
@@ -40,7 +40,7 @@ fn copy(to: u64, from: u64) -> u64
 // The target word with a number in each target field, first pair first.
 fn store(t: u64, t1: u64, n1: Relative, t2: u64, n2: Relative) -> u64
     requires { (t < 2 ^ 46) × FirstBit t1 × (n1.0 < 65536) × FirstBit t2 × (n2.0 < 65536) }
-    ensures { result ≡ packed (with_number (fieldBy t2) n2.0 (with_number (fieldBy t1) n1.0 (unpacked t))) }
+    ensures { result ≡ packed (with_number (field_by t2) n2.0 (with_number (field_by t1) n1.0 (unpacked t))) }
 {
     with_number_at(with_number_at(t, t1, n1), t2, n2)
 }
@@ -57,7 +57,7 @@ fn moves(
     rb: u64,
     w: u64,
 ) -> Executed
-    requires { SoundScene size core.old modifier pc.0 target.0 ra rb w × (pairs.now ≡ fieldPairs) }
+    requires { SoundScene size core.old modifier pc.0 target.0 ra rb w × (pairs.now ≡ field_pairs) }
     ensures { Does 1 (scene_of size modifier pc.0 0 ra rb (get_or core.old target.0 0)) core.old target.0 w result core.new }
 {
     let next = add(pc, Relative(1), size);
@@ -78,7 +78,7 @@ fn moves(
 // ADD a+b, SUB b-a and MUL a×b of two numbers.
 fn value(opcode: u64, size: u32, a: Relative, b: Relative) -> Relative
     requires { (a.0 < size) × (b.0 < size) × (size ≤ 46341) × (2 ≤ opcode) × (opcode < 5) }
-    ensures { (some result.0 ≡ valueBy opcode size a.0 b.0) × (result.0 < size) }
+    ensures { (some result.0 ≡ value_by opcode size a.0 b.0) × (result.0 < size) }
 {
     if opcode == ADD {
         return plus(a, b, size);
@@ -103,7 +103,7 @@ fn sums(
     rb: u64,
     w: u64,
 ) -> Executed
-    requires { SoundScene size core.old modifier pc.0 target.0 ra rb w × (2 ≤ opcode) × (opcode < 5) × (pairs.now ≡ fieldPairs) }
+    requires { SoundScene size core.old modifier pc.0 target.0 ra rb w × (2 ≤ opcode) × (opcode < 5) × (pairs.now ≡ field_pairs) }
     ensures { Does opcode (scene_of size modifier pc.0 0 ra rb (get_or core.old target.0 0)) core.old target.0 w result core.new }
 {
     let next = add(pc, Relative(1), size);
@@ -127,7 +127,7 @@ fn sums(
 // DIV a/b and MOD a mod b in a target field, which a zero b leaves.
 fn part(opcode: u64, t: u64, bit: u64, a: Relative, b: Relative) -> u64
     requires { (t < 2 ^ 46) × FirstBit bit × (a.0 < 65536) }
-    ensures { result ≡ cond (eqb b.0 0) t (packed (with_number (fieldBy bit) (cond (eqb opcode 5) (a.0 / b.0) (a.0 % b.0)) (unpacked t))) }
+    ensures { result ≡ cond (eqb b.0 0) t (packed (with_number (field_by bit) (cond (eqb opcode 5) (a.0 / b.0) (a.0 % b.0)) (unpacked t))) }
 {
     if b.0 == 0 {
         return t;
@@ -151,7 +151,7 @@ fn divides(
     rb: u64,
     w: u64,
 ) -> Executed
-    requires { SoundScene size core.old modifier pc.0 target.0 ra rb w × (5 ≤ opcode) × (opcode < 7) × (pairs.now ≡ fieldPairs) }
+    requires { SoundScene size core.old modifier pc.0 target.0 ra rb w × (5 ≤ opcode) × (opcode < 7) × (pairs.now ≡ field_pairs) }
     ensures { Does opcode (scene_of size modifier pc.0 0 ra rb (get_or core.old target.0 0)) core.old target.0 w result core.new }
 {
     let p = meet(pairs, modifier, ra, rb);
@@ -200,7 +200,7 @@ fn jumps(
     rb: u64,
     w: u64,
 ) -> Executed
-    requires { (modifier ≤ 6) × (pc.0 < size) × (size ≤ 46341) × (8 ≤ opcode) × (opcode < 10) × (pairs.now ≡ fieldPairs) }
+    requires { (modifier ≤ 6) × (pc.0 < size) × (size ≤ 46341) × (8 ≤ opcode) × (opcode < 10) × (pairs.now ≡ field_pairs) }
     ensures { Answers opcode (scene_of size modifier pc.0 jump.0 ra rb 0) w result }
 {
     let p = meet(pairs, modifier, ra, rb);
@@ -226,7 +226,7 @@ fn decrements_and_jumps(
     rb: u64,
     w: u64,
 ) -> Executed
-    requires { SoundScene size core.old modifier pc.0 target.0 ra rb w × (pairs.now ≡ fieldPairs) }
+    requires { SoundScene size core.old modifier pc.0 target.0 ra rb w × (pairs.now ≡ field_pairs) }
     ensures { Does 10 (scene_of size modifier pc.0 jump.0 ra rb (get_or core.old target.0 0)) core.old target.0 w result core.new }
 {
     let at = target.0 as usize;
@@ -273,7 +273,7 @@ fn skips<'a>(
     rb: u64,
     w: u64,
 ) -> Executed
-    requires { SoundScene size core.now modifier pc.0 target.0 ra rb w × (11 ≤ opcode) × (opcode < 15) × (pairs.now ≡ fieldPairs) }
+    requires { SoundScene size core.now modifier pc.0 target.0 ra rb w × (11 ≤ opcode) × (opcode < 15) × (pairs.now ≡ field_pairs) }
     ensures { Does opcode (scene_of size modifier pc.0 0 ra rb (get_or core.now target.0 0)) core.now target.0 w result core.now }
 {
     let next = add(pc, Relative(1), size);
@@ -300,7 +300,7 @@ pub(crate) fn act(
     rb: u64,
     w: u64,
 ) -> Executed
-    requires { SoundScene size core.old (unpacked here).modifier pc.0 target.0 ra rb w × ((unpacked here).opcode ≤ 16) × (here < 2 ^ 46) × (pairs.now ≡ fieldPairs) }
+    requires { SoundScene size core.old (unpacked here).modifier pc.0 target.0 ra rb w × ((unpacked here).opcode ≤ 16) × (here < 2 ^ 46) × (pairs.now ≡ field_pairs) }
     ensures { Does (unpacked here).opcode (scene_of size (unpacked here).modifier pc.0 jump.0 ra rb (get_or core.old target.0 0))
         core.old target.0 w result core.new }
 {

@@ -1,11 +1,11 @@
 // Operands of an instruction that is not refused, where both limits are M: where they point, and the cells that they read and change (01, 'Pointers').
 ghost use Rattle.std.specs.Prelude.{◌≡◌, true, ◌<◌, ◌≤◌, length, get_or, set};
-ghost use Rattle.cell.specs.Cells.{unpacked, soundWord};
+ghost use Rattle.cell.specs.Cells.{unpacked, sound_word};
 ghost use Rattle.machine.specs.Pointers as spec;
 ghost use Rattle.machine.specs.Instruction.{fetched};
-ghost use Rattle.machine.specs.Whole.{former, formerA};
-ghost use Rattle.address.specs.inner.Operands.{Ready, Fetched, soundSeen};
-ghost use Rattle.steps.specs.inner.Instruction.{operandOf};
+ghost use Rattle.machine.specs.Whole.{former, former_a};
+ghost use Rattle.address.specs.Inner.Operands.{Ready, Fetched, sound_seen};
+ghost use Rattle.steps.specs.Inner.Instruction.{operand_of};
 
 use crate::modifier::{number_at, with_number_at};
 use address::{aim, field_of, increment};
@@ -24,10 +24,10 @@ pub(crate) struct Operand {
 
 // The modes `#` and `$`, which need no second look at the pointer's cell.
 fn direct(core: &[u64], rules: Rules, pc: Absolute, here: u64, mode: u64, n: Relative) -> Operand
-    requires { Ready rules core.now pc.0 n.0 × (mode < 2) × (here ≡ get_or core.now pc.0 0) × (soundWord rules.size here ≡ true)
-        × (soundSeen rules.size (former (spec.siteAt rules pc.0) core.now mode n.0) ≡ true) }
-    ensures { (result ≡ operandOf (former (spec.siteAt rules pc.0) core.now mode n.0))
-        × (core.now ≡ (former (spec.siteAt rules pc.0) core.now mode n.0).core) }
+    requires { Ready rules core.now pc.0 n.0 × (mode < 2) × (here ≡ get_or core.now pc.0 0) × (sound_word rules.size here ≡ true)
+        × (sound_seen rules.size (former (spec.site_at rules pc.0) core.now mode n.0) ≡ true) }
+    ensures { (result ≡ operand_of (former (spec.site_at rules pc.0) core.now mode n.0))
+        × (core.now ≡ (former (spec.site_at rules pc.0) core.now mode n.0).core) }
 {
     if mode == IMMEDIATE {
         return Operand {
@@ -67,9 +67,9 @@ fn raise(core: &mut [u64], at: usize, there: usize, raised: u64) -> u64
 // The six modes that go through the A number (even) or the B number (odd) of the cell at the location.
 fn indirect(core: &mut [u64], rules: Rules, pc: Absolute, mode: u64, n: Relative) -> Operand
     requires { Ready rules core.old pc.0 n.0 × (2 ≤ mode) × (mode < 8)
-        × (soundSeen rules.size (former (spec.siteAt rules pc.0) core.old mode n.0) ≡ true) }
-    ensures { (result ≡ operandOf (former (spec.siteAt rules pc.0) core.old mode n.0))
-        × (core.new ≡ (former (spec.siteAt rules pc.0) core.old mode n.0).core) }
+        × (sound_seen rules.size (former (spec.site_at rules pc.0) core.old mode n.0) ≡ true) }
+    ensures { (result ≡ operand_of (former (spec.site_at rules pc.0) core.old mode n.0))
+        × (core.new ≡ (former (spec.site_at rules pc.0) core.old mode n.0).core) }
 {
     let size = rules.size;
     let location = add(pc, n, size);
@@ -98,8 +98,8 @@ fn indirect(core: &mut [u64], rules: Rules, pc: Absolute, mode: u64, n: Relative
 
 // The A operand of the cell at PC.
 pub(crate) fn a_operand(core: &mut [u64], rules: Rules, pc: Absolute, here: u64) -> Operand
-    requires { Fetched rules core.old pc.0 here × (soundSeen rules.size (formerA (spec.siteAt rules pc.0) core.old) ≡ true) }
-    ensures { (result ≡ operandOf (formerA (spec.siteAt rules pc.0) core.old)) × (core.new ≡ (formerA (spec.siteAt rules pc.0) core.old).core) }
+    requires { Fetched rules core.old pc.0 here × (sound_seen rules.size (former_a (spec.site_at rules pc.0) core.old) ≡ true) }
+    ensures { (result ≡ operand_of (former_a (spec.site_at rules pc.0) core.old)) × (core.new ≡ (former_a (spec.site_at rules pc.0) core.old).core) }
 {
     let mode = a_mode(here);
     let n = number(here, A);
@@ -112,9 +112,9 @@ pub(crate) fn a_operand(core: &mut [u64], rules: Rules, pc: Absolute, here: u64)
 // The B operand of that cell, its number read again from the core.
 pub(crate) fn b_operand(core: &mut [u64], rules: Rules, pc: Absolute, here: u64) -> Operand
     requires { Fetched rules core.old pc.0 (get_or core.old pc.0 0)
-        × (soundSeen rules.size (former (spec.siteAt rules pc.0) core.old (unpacked here).b_mode (fetched core.old pc.0).b.0) ≡ true) }
-    ensures { (result ≡ operandOf (former (spec.siteAt rules pc.0) core.old (unpacked here).b_mode (fetched core.old pc.0).b.0))
-        × (core.new ≡ (former (spec.siteAt rules pc.0) core.old (unpacked here).b_mode (fetched core.old pc.0).b.0).core) }
+        × (sound_seen rules.size (former (spec.site_at rules pc.0) core.old (unpacked here).b_mode (fetched core.old pc.0).b.0) ≡ true) }
+    ensures { (result ≡ operand_of (former (spec.site_at rules pc.0) core.old (unpacked here).b_mode (fetched core.old pc.0).b.0))
+        × (core.new ≡ (former (spec.site_at rules pc.0) core.old (unpacked here).b_mode (fetched core.old pc.0).b.0).core) }
 {
     let mode = b_mode(here);
     let at = pc.0 as usize;

@@ -3,9 +3,9 @@ ghost use Rattle.std.specs.Prelude.{◌≡◌, cond, ℕ, ◌+◌, ◌-◌, ◌^
 ghost use Rattle.std.proofs.Math.ListN as lists;
 ghost use Rattle.answer.specs.Numbers.{told, gives};
 ghost use Rattle.offset.specs.Offset.{ahead};
-ghost use Rattle.machine.specs.Queue.{packedEntry, unpackedEntry, entry, full, started};
-ghost use Rattle.lent.specs.Parts.{queueOf};
-ghost use Rattle.steps.specs.inner.Queueing.{ringOf, Front, Near, Requeued};
+ghost use Rattle.machine.specs.Queue.{packed_entry, unpacked_entry, entry, full, started};
+ghost use Rattle.lent.specs.Parts.{queue_of};
+ghost use Rattle.steps.specs.Inner.Queueing.{ring_of, Front, Near, Requeued};
 
 use crate::opcode::Executed;
 use answer::Answer;
@@ -72,10 +72,10 @@ fn start_child(
 ) -> Grown
     requires { (lists.length queue.old ≤ 65535) × (tail < lists.length queue.old) × (name < 16) × (get_or threads.old name 0 ≡ 4294967295 → ⊥) × (get_or counts.old name 0 < 4294967295) }
     ensures { (head : ℕ) → tail ≡ ahead (lists.length queue.old) head length
-        → (queueOf queue.new (ringOf head result.length) counts.new threads.new
-        ≡ cond (full (queueOf queue.old (ringOf head length) counts.old threads.old) name)
-        (queueOf queue.old (ringOf head length) counts.old threads.old)
-        (started place.0 name (queueOf queue.old (ringOf head length) counts.old threads.old)))
+        → (queue_of queue.new (ring_of head result.length) counts.new threads.new
+        ≡ cond (full (queue_of queue.old (ring_of head length) counts.old threads.old) name)
+        (queue_of queue.old (ring_of head length) counts.old threads.old)
+        (started place.0 name (queue_of queue.old (ring_of head length) counts.old threads.old)))
         × (result.tail ≡ ahead (lists.length queue.old) head result.length) }
 {
     if queue.len() <= length as usize {
@@ -116,7 +116,7 @@ fn end_process(counts: &mut [u32; 16], name: u8, answer: Answer) -> Answer
 // The word of a sound entry at another place.
 fn moved(w: u64, place: Absolute) -> u64
     requires { (w < 2 ^ 52) × (place.0 < 65536) }
-    ensures { result ≡ packedEntry (entry place.0 (unpackedEntry w).thread (unpackedEntry w).name) }
+    ensures { result ≡ packed_entry (entry place.0 (unpacked_entry w).thread (unpacked_entry w).name) }
 {
     w - (w & 0xffff) + place.0 as u64
 }
@@ -132,8 +132,8 @@ pub(crate) fn requeue(
     w: u64,
     executed: Executed,
 ) -> Stepped
-    requires { Front (queueOf queue.old (ringOf head length) counts.old threads.old) tail × (w ≡ get_or queue.old head 0) × Near executed }
-    ensures { Requeued (queueOf queue.old (ringOf head length) counts.old threads.old) executed result
+    requires { Front (queue_of queue.old (ring_of head length) counts.old threads.old) tail × (w ≡ get_or queue.old head 0) × Near executed }
+    ensures { Requeued (queue_of queue.old (ring_of head length) counts.old threads.old) executed result
         queue.new counts.new threads.new }
 {
     let after = slot_after(head, queue.len() as u32);

@@ -1,12 +1,12 @@
 // The run loop on the lent parts of a record whose header is sound, without its names (01, 'One step', its last paragraph).
 ghost use Rattle.std.specs.Prelude.{◌≡◌, true, cond, ◌+◌, ◌-◌, ◌≤◌, eqb};
 ghost use Rattle.answer.specs.Numbers.{told, gives};
-ghost use Rattle.types.specs.Types.{fieldPairs};
+ghost use Rattle.types.specs.Types.{field_pairs};
 ghost use Rattle.machine.specs.Whole.{Unlimited};
 ghost use Rattle.refusal.specs.Checks as check;
 ghost use Rattle.lent.specs.Parts.{unnamed};
-ghost use Rattle.lent.specs.Given.{given, givenBy};
-ghost use Rattle.steps.specs.inner.Ready.{Ready, playsOf, Plays, Scanned, ranOf};
+ghost use Rattle.lent.specs.Given.{given, given_by};
+ghost use Rattle.steps.specs.Inner.Ready.{Ready, plays_of, Plays, Scanned, ran_of};
 
 use crate::Ran;
 use crate::opcode::opcode;
@@ -30,7 +30,7 @@ fn is_done(answer: Answer) -> bool
 // What a run gives, from the steps taken before and after it.
 fn ran(answer: Answer, writes: u64, head: u32, length: u32, before: u32, taken: u32) -> Ran
     requires { before ≤ taken }
-    ensures { result ≡ ranOf answer writes head length before taken }
+    ensures { result ≡ ran_of answer writes head length before taken }
 {
     let steps = (taken - before) as u64;
     Ran {
@@ -56,9 +56,9 @@ fn play(
     until: u64,
     whole: bool,
 ) -> Ran
-    requires { Ready (unnamed core.old queue.old rules ring taken held counts.old threads.old) × Plays until (unnamed core.old queue.old rules ring taken held counts.old threads.old) × (pairs.now ≡ fieldPairs) × (whole ≡ true → Unlimited rules) }
+    requires { Ready (unnamed core.old queue.old rules ring taken held counts.old threads.old) × Plays until (unnamed core.old queue.old rules ring taken held counts.old threads.old) × (pairs.now ≡ field_pairs) × (whole ≡ true → Unlimited rules) }
     ensures { given (told result.answer) result.writes result.steps (unnamed core.new queue.new rules result.ring result.taken held counts.new threads.new)
-        ≡ givenBy (playsOf (until - taken) (unnamed core.old queue.old rules ring taken held counts.old threads.old)) }
+        ≡ given_by (plays_of (until - taken) (unnamed core.old queue.old rules ring taken held counts.old threads.old)) }
 {
     let mut head = ring.head;
     let mut length = ring.length;
@@ -131,9 +131,9 @@ fn ask(
     trusted: bool,
     whole: bool,
 ) -> Ran
-    requires { Ready (unnamed core.old queue.old rules ring taken held counts.old threads.old) × (trusted ≡ true → Scanned ceiling (unnamed core.old queue.old rules ring taken held counts.old threads.old)) × (pairs.now ≡ fieldPairs) × (whole ≡ true → Unlimited rules) }
+    requires { Ready (unnamed core.old queue.old rules ring taken held counts.old threads.old) × (trusted ≡ true → Scanned ceiling (unnamed core.old queue.old rules ring taken held counts.old threads.old)) × (pairs.now ≡ field_pairs) × (whole ≡ true → Unlimited rules) }
     ensures { given (told result.answer) result.writes result.steps (unnamed core.new queue.new rules result.ring result.taken held counts.new threads.new)
-        ≡ givenBy (playsOf (cond trusted ceiling (taken + 1) - taken) (unnamed core.old queue.old rules ring taken held counts.old threads.old)) }
+        ≡ given_by (plays_of (cond trusted ceiling (taken + 1) - taken) (unnamed core.old queue.old rules ring taken held counts.old threads.old)) }
 {
     let refused = asked(
         core, queue, counts, threads, rules, held, ring, taken, trusted,
@@ -192,7 +192,7 @@ pub(crate) fn run_loop(
 ) -> Ran
     requires { Ready (unnamed core.old queue.old rules ring taken held counts.old threads.old) }
     ensures { given (told result.answer) result.writes result.steps (unnamed core.new queue.new rules result.ring result.taken held counts.new threads.new)
-        ≡ givenBy (playsOf (ceiling - taken) (unnamed core.old queue.old rules ring taken held counts.old threads.old)) }
+        ≡ given_by (plays_of (ceiling - taken) (unnamed core.old queue.old rules ring taken held counts.old threads.old)) }
 {
     let whole = unlimited(rules);
     let pairs = field_pairs();

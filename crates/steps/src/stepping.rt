@@ -3,15 +3,15 @@ ghost use Rattle.std.specs.Prelude.{◌≡◌, true, ℕ, ◌+◌, ◌<◌, get_
 ghost use Rattle.std.proofs.Math.ListN as lists;
 ghost use Rattle.answer.specs.Numbers.{told};
 ghost use Rattle.offset.specs.Offset.{ahead};
-ghost use Rattle.types.specs.Types.{fieldPairs};
+ghost use Rattle.types.specs.Types.{field_pairs};
 ghost use Rattle.machine.specs.declared.Roster.{Roster};
-ghost use Rattle.machine.specs.Queue.{unpackedEntry};
+ghost use Rattle.machine.specs.Queue.{unpacked_entry};
 ghost use Rattle.machine.specs.Step as spec;
 ghost use Rattle.machine.specs.Whole.{Unlimited};
-ghost use Rattle.lent.specs.Parts.{parts, queueOf};
-ghost use Rattle.lent.specs.Given.{given, givenBy};
-ghost use Rattle.steps.specs.inner.Instruction.{Executable};
-ghost use Rattle.steps.specs.inner.Queueing.{ringOf, Front};
+ghost use Rattle.lent.specs.Parts.{parts, queue_of};
+ghost use Rattle.lent.specs.Given.{given, given_by};
+ghost use Rattle.steps.specs.Inner.Instruction.{Executable};
+ghost use Rattle.steps.specs.Inner.Queueing.{ring_of, Front};
 
 use crate::execute::execute;
 use crate::ring::{Stepped, requeue};
@@ -27,8 +27,8 @@ pub(crate) struct Fetched {
 
 // Reads the front entry and the cell at its place.
 pub(crate) fn fetch(core: &[u64], queue: &[u64], head: u32) -> Fetched
-    requires { (head < lists.length queue.now) × ((unpackedEntry (get_or queue.now head 0)).place.0 < lists.length core.now) }
-    ensures { (result.entry ≡ get_or queue.now head 0) × (result.cell ≡ get_or core.now (unpackedEntry (get_or queue.now head 0)).place.0 0) }
+    requires { (head < lists.length queue.now) × ((unpacked_entry (get_or queue.now head 0)).place.0 < lists.length core.now) }
+    ensures { (result.entry ≡ get_or queue.now head 0) × (result.cell ≡ get_or core.now (unpacked_entry (get_or queue.now head 0)).place.0 0) }
 {
     let at = head as usize;
     let w = queue[at];
@@ -54,11 +54,11 @@ pub(crate) fn step_once(
     fetched: Fetched,
     whole: bool,
 ) -> Stepped
-    requires { Front (queueOf queue.old (ringOf head length) counts.old threads.old) tail × (fetched.entry ≡ get_or queue.old head 0)
-        × Executable rules core.old (unpackedEntry (get_or queue.old head 0)).place.0 fetched.cell × (pairs.now ≡ fieldPairs) × (whole ≡ true → Unlimited rules) }
+    requires { Front (queue_of queue.old (ring_of head length) counts.old threads.old) tail × (fetched.entry ≡ get_or queue.old head 0)
+        × Executable rules core.old (unpacked_entry (get_or queue.old head 0)).place.0 fetched.cell × (pairs.now ≡ field_pairs) × (whole ≡ true → Unlimited rules) }
     ensures { ((steps : ℕ) (names : Roster) → given (told result.answer) result.writes 1
-        (parts core.new queue.new rules (ringOf result.head result.length) (steps + 1) names counts.new threads.new)
-        ≡ givenBy (spec.executed (parts core.old queue.old rules (ringOf head length) steps names counts.old threads.old)))
+        (parts core.new queue.new rules (ring_of result.head result.length) (steps + 1) names counts.new threads.new)
+        ≡ given_by (spec.executed (parts core.old queue.old rules (ring_of head length) steps names counts.old threads.old)))
         × (result.tail ≡ ahead (lists.length queue.new) result.head result.length) }
 {
     let w = fetched.entry;

@@ -10,7 +10,7 @@ use Rattle.machine.specs.declared.Roster.{Roster}
 use Rattle.machine.specs.declared.Rules.{Rules}
 use Rattle.machine.specs.State as state
 use Rattle.lent.specs.Parts.{machine_of}
-use Rattle.lent.specs.Given.{Given, given, givenBy}
+use Rattle.lent.specs.Given.{Given, given, given_by}
 use Rattle.sumacadze.specs.declared.Report.{Report}
 use Rattle.sumacadze.specs.Report.{reported}
 use Rattle.sumacadze.proofs.Numbers.{in-numbers}
@@ -20,9 +20,9 @@ changed h k = record { rules = h.rules; ring = k.ring; steps = k.steps; names = 
 
 -- what a call by value gives back, told in numbers, with the header so changed
 pub changed-in_numbers : (h : Header) (o : state.Outcome) (answer : Answer) {writes steps : ℕ} {core queue : List ℕ} {k : Header} {r : Report}
-    → r ≡ reported answer writes steps → given (told answer) writes steps (machine_of core queue k) ≡ givenBy o
+    → r ≡ reported answer writes steps → given (told answer) writes steps (machine_of core queue k) ≡ given_by o
     → (o.machine.header.rules ≡ h.rules) × (o.machine.header.names ≡ h.names)
-    → given (gives r.number r.value) r.writes r.steps (machine_of core queue (changed h k)) ≡ givenBy o
+    → given (gives r.number r.value) r.writes r.steps (machine_of core queue (changed h k)) ≡ given_by o
 changed-in_numbers h o answer {writes} {steps} {core} {queue} {k} n e fixed =
     in-numbers answer (machine_of core queue (changed h k)) n (ap (λ (x : Header). given (told answer) writes steps (machine_of core queue x)) all ∙ e)
   where

@@ -17,11 +17,11 @@ abbrev pub reported : Answer → ℕ → ℕ → Report
 reported answer writes steps = report (told answer).number (told answer).value writes steps
 
 -- a ceiling, where one is said
-abbrev pub ceilingIf : Bool → ℕ → Ceiling
-ceilingIf true n = Steps n
-ceilingIf false n = Unsaid
+abbrev pub ceiling_if : Bool → ℕ → Ceiling
+ceiling_if true n = Steps n
+ceiling_if false n = Unsaid
 
 -- a cell of these fields
 abbrev pub cell_of : ℕ → ℕ → ℕ → ℕ → ℕ → ℕ → Cell
-cell_of opcode modifier a-mode b-mode a b =
-    record { opcode = opcode; modifier = modifier; a_mode = a-mode; b_mode = b-mode; a = relative a; b = relative b }
+cell_of opcode modifier a_mode b_mode a b =
+    record { opcode = opcode; modifier = modifier; a_mode = a_mode; b_mode = b_mode; a = relative a; b = relative b }

@@ -3,8 +3,8 @@ ghost use Rattle.std.specs.Prelude.{◌≡◌};
 ghost use Rattle.answer.specs.Numbers.{told};
 ghost use Rattle.machine.specs.Run as running;
 ghost use Rattle.lent.specs.Parts.{machine_of};
-ghost use Rattle.lent.specs.Given.{given, givenBy};
-ghost use Rattle.sumacadze.specs.Report.{reported, ceilingIf};
+ghost use Rattle.lent.specs.Given.{given, given_by};
+ghost use Rattle.sumacadze.specs.Report.{reported, ceiling_if};
 
 use crate::Report;
 use answer::{Answer, number, value};
@@ -24,7 +24,7 @@ pub(crate) fn in_numbers(answer: Answer, writes: u64, steps: u64) -> Report
 
 // A ceiling, where one is said.
 fn ceiling_if(said: bool, ceiling: u64) -> Ceiling
-    ensures { result ≡ ceilingIf said ceiling }
+    ensures { result ≡ ceiling_if said ceiling }
 {
     if said {
         return Ceiling::Steps(ceiling);
@@ -41,7 +41,7 @@ pub(crate) fn run(
     ceiling: u64,
 ) -> Outcome
     ensures { given (told result.answer) result.writes result.steps (machine_of core.new queue.new result.header)
-        ≡ givenBy (running.run (ceilingIf said ceiling) (machine_of core.old queue.old h)) }
+        ≡ given_by (running.run (ceiling_if said ceiling) (machine_of core.old queue.old h)) }
 {
     let limit = ceiling_if(said, ceiling);
     cycle::run(core, queue, h, limit)

@@ -1,8 +1,8 @@
 // Reading a match file, for programs in C and Rust.
 ghost use Rattle.std.specs.Prelude.{◌≡◌, ◌*◌};
 ghost use Rattle.answer.specs.Numbers.{gives};
-ghost use Rattle.match_format.specs.Faults.{fault, faultAt};
-ghost use Rattle.match_file.specs.Reading.{toldBy, zeroed, warriorsIn, sizeIn, line_at, nameStart, nameLength, bodyStart, count_of, warriorOf};
+ghost use Rattle.match_format.specs.Faults.{fault, fault_at};
+ghost use Rattle.match_file.specs.Reading.{told_by, zeroed, warriors_in, size_in, line_at, name_start, name_length, body_start, count_of, warrior_of};
 
 use answer::{number, value};
 
@@ -33,9 +33,9 @@ pub struct Line {
 // Reads how many warriors a file has, and M.
 #[unsafe(no_mangle)]
 pub extern "C" fn sumacadze_read(file: &[u8]) -> Contents
-    ensures { (gives result.number result.position ≡ toldBy (fault file.now))
-        × (result.warriors ≡ zeroed (fault file.now) (warriorsIn file.now))
-        × (result.size ≡ zeroed (fault file.now) (sizeIn file.now)) }
+    ensures { (gives result.number result.position ≡ told_by (fault file.now))
+        × (result.warriors ≡ zeroed (fault file.now) (warriors_in file.now))
+        × (result.size ≡ zeroed (fault file.now) (size_in file.now)) }
 {
     let s = match_file::read(file);
     let answer = s.answer;
@@ -50,13 +50,13 @@ pub extern "C" fn sumacadze_read(file: &[u8]) -> Contents
 // Reads the line of a warrior.
 #[unsafe(no_mangle)]
 pub extern "C" fn sumacadze_read_line(file: &[u8], warrior: usize) -> Line
-    ensures { (gives result.number result.position ≡ toldBy (faultAt file.now warrior))
-        × (result.name_start ≡ zeroed (faultAt file.now warrior) (nameStart (line_at warrior)))
-        × (result.name_length ≡ zeroed (faultAt file.now warrior) (nameLength file.now (line_at warrior)))
-        × (result.body_start ≡ zeroed (faultAt file.now warrior) (bodyStart file.now (line_at warrior)))
-        × (result.body_length ≡ zeroed (faultAt file.now warrior) (12 * count_of file.now warrior))
-        × (result.origin ≡ zeroed (faultAt file.now warrior) (warriorOf file.now warrior).origin)
-        × (result.place ≡ zeroed (faultAt file.now warrior) (warriorOf file.now warrior).place) }
+    ensures { (gives result.number result.position ≡ told_by (fault_at file.now warrior))
+        × (result.name_start ≡ zeroed (fault_at file.now warrior) (name_start (line_at warrior)))
+        × (result.name_length ≡ zeroed (fault_at file.now warrior) (name_length file.now (line_at warrior)))
+        × (result.body_start ≡ zeroed (fault_at file.now warrior) (body_start file.now (line_at warrior)))
+        × (result.body_length ≡ zeroed (fault_at file.now warrior) (12 * count_of file.now warrior))
+        × (result.origin ≡ zeroed (fault_at file.now warrior) (warrior_of file.now warrior).origin)
+        × (result.place ≡ zeroed (fault_at file.now warrior) (warrior_of file.now warrior).place) }
 {
     let s = match_file::read_line(file, warrior);
     let answer = s.answer;

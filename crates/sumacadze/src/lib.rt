@@ -9,8 +9,8 @@ ghost use Rattle.machine.specs.Load as loading;
 ghost use Rattle.machine.specs.Run as running;
 ghost use Rattle.machine.specs.Step as one;
 ghost use Rattle.lent.specs.Parts.{machine_of};
-ghost use Rattle.lent.specs.Given.{given, givenBy};
-ghost use Rattle.sumacadze.specs.Report.{ceilingIf, cell_of};
+ghost use Rattle.lent.specs.Given.{given, given_by};
+ghost use Rattle.sumacadze.specs.Report.{ceiling_if, cell_of};
 
 use by_value::in_numbers;
 use machine::{Header, Rules};
@@ -97,7 +97,7 @@ pub extern "C" fn sumacadze_load(
     place: u32,
 ) -> Report
     ensures { given (gives result.number result.value) result.writes result.steps (machine_of core.new queue.new header.new)
-        ≡ givenBy (loading.load (machine_of core.old queue.old header.old) name.now body.now origin place) }
+        ≡ given_by (loading.load (machine_of core.old queue.old header.old) name.now body.now origin place) }
 {
     let s = warrior::load(core, queue, *header, name, body, origin, place);
     *header = s.header;
@@ -108,7 +108,7 @@ pub extern "C" fn sumacadze_load(
 #[unsafe(no_mangle)]
 pub extern "C" fn sumacadze_step(core: &mut [u64], queue: &mut [u64], header: &mut Header) -> Report
     ensures { given (gives result.number result.value) result.writes result.steps (machine_of core.new queue.new header.new)
-        ≡ givenBy (one.step (machine_of core.old queue.old header.old)) }
+        ≡ given_by (one.step (machine_of core.old queue.old header.old)) }
 {
     let s = cycle::step(core, queue, *header);
     let counts = s.header.counts;
@@ -130,7 +130,7 @@ pub extern "C" fn sumacadze_run(
     ceiling: u64,
 ) -> Report
     ensures { given (gives result.number result.value) result.writes result.steps (machine_of core.new queue.new header.new)
-        ≡ givenBy (running.run (ceilingIf said ceiling) (machine_of core.old queue.old header.old)) }
+        ≡ given_by (running.run (ceiling_if said ceiling) (machine_of core.old queue.old header.old)) }
 {
     let s = by_value::run(core, queue, *header, said, ceiling);
     let counts = s.header.counts;

@@ -2,8 +2,8 @@
 ghost use Rattle.std.specs.Prelude.{◌≡◌};
 ghost use Rattle.answer.specs.Numbers.{gives};
 ghost use Rattle.lent.specs.Parts.{machine_of};
-ghost use Rattle.lent.specs.Given.{given, givenBy};
-ghost use Rattle.match_load.specs.Loading.{loadMatch};
+ghost use Rattle.lent.specs.Given.{given, given_by};
+ghost use Rattle.match_load.specs.Loading.{load_match};
 
 use crate::Report;
 use crate::by_value::in_numbers;
@@ -27,8 +27,8 @@ pub extern "C" fn sumacadze_load_match(
     file: &[u8],
 ) -> Loads
     ensures { (given (gives result.report.number result.report.value) result.report.writes result.report.steps (machine_of core.new queue.new result.header)
-        ≡ givenBy (loadMatch (machine_of core.old queue.old header) file.now).outcome)
-        × (result.warrior ≡ (loadMatch (machine_of core.old queue.old header) file.now).warrior) }
+        ≡ given_by (load_match (machine_of core.old queue.old header) file.now).outcome)
+        × (result.warrior ≡ (load_match (machine_of core.old queue.old header) file.now).warrior) }
 {
     let s = match_load::load_match(core, queue, header, file);
     let o = s.outcome;

@@ -13,8 +13,8 @@ unnamed = 255
 
 -- DAT: F. JMP JMZ JMN DJN SPL NOP: B. Else A mode `#`: AB. Else B mode `#`: B.
 -- Else MOV CMP SEQ SNE: I; SLT: B; ADD SUB MUL DIV MOD: F; LDP STP: none
-abbrev pub defaultModifier : ℕ → ℕ → ℕ → ℕ
-defaultModifier op a b =
+abbrev pub default_modifier : ℕ → ℕ → ℕ → ℕ
+default_modifier op a b =
     cond (eqb op DAT) F
     (cond (among (JMP ∷ JMZ ∷ JMN ∷ DJN ∷ SPL ∷ NOP ∷ []) op) B
     (cond (eqb a Immediate) AB
@@ -29,9 +29,9 @@ abbrev pub ranged : ℕ → ℕ → ℕ → Bool
 ranged op a b = leb op STP && leb a PostIncIndirectB && leb b PostIncIndirectB
 
 -- the default of these codes, 255 where there is none
-abbrev pub defaultOf : ℕ → ℕ → ℕ → ℕ
-defaultOf op a b = cond (ranged op a b) (defaultModifier op a b) unnamed
+abbrev pub default_of : ℕ → ℕ → ℕ → ℕ
+default_of op a b = cond (ranged op a b) (default_modifier op a b) unnamed
 
 -- 4, index 0, where there is none
-abbrev pub toldOf : ℕ → Told
-toldOf modifier = cond (eqb modifier unnamed) (gives 4 0) (gives 0 0)
+abbrev pub told_of : ℕ → Told
+told_of modifier = cond (eqb modifier unnamed) (gives 4 0) (gives 0 0)

@@ -26,16 +26,16 @@ pairs =
     ∷ []
 
 -- in the code a field is told by its first bit in a cell's word: B number in bits 0–15, A number 16–31
-abbrev pub firstBit : Field → ℕ
-firstBit A = 16
-firstBit B = 0
+abbrev pub first_bit : Field → ℕ
+first_bit A = 16
+first_bit B = 0
 
 -- the first and the last pair of a row: the same one where the row has one
 abbrev pub ends : List Pair → List ℕ
 ends [] = []
-ends (p ∷ []) = firstBit p.from ∷ firstBit p.to ∷ firstBit p.from ∷ firstBit p.to ∷ []
-ends (p ∷ q ∷ ps) = firstBit p.from ∷ firstBit p.to ∷ firstBit q.from ∷ firstBit q.to ∷ []
+ends (p ∷ []) = first_bit p.from ∷ first_bit p.to ∷ first_bit p.from ∷ first_bit p.to ∷ []
+ends (p ∷ q ∷ ps) = first_bit p.from ∷ first_bit p.to ∷ first_bit q.from ∷ first_bit q.to ∷ []
 
 -- those of the seven rows
-abbrev pub fieldPairs : List (List ℕ)
-fieldPairs = map ends pairs
+abbrev pub field_pairs : List (List ℕ)
+field_pairs = map ends pairs

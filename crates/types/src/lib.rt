@@ -3,9 +3,9 @@
 
 ghost use Rattle.std.specs.Prelude.{◌≡◌, leb};
 ghost use Rattle.answer.specs.Numbers.{told};
-ghost use Rattle.types.specs.Defaults.{ranged, defaultModifier, defaultOf, toldOf};
+ghost use Rattle.types.specs.Defaults.{ranged, default_modifier, default_of, told_of};
 ghost use Rattle.types.specs.Modifier.{I};
-ghost use Rattle.types.specs.Types.{fieldPairs};
+ghost use Rattle.types.specs.Types.{field_pairs};
 
 use crate::field::{A, B};
 use crate::mode::{IMMEDIATE, POST_INC_INDIRECT_B};
@@ -31,7 +31,7 @@ fn in_range(opcode: u8, a_mode: u8, b_mode: u8) -> bool
 
 // The rule, for codes in range; 255 where it gives none.
 fn default_modifier(opcode: u8, a_mode: u8, b_mode: u8) -> u8
-    ensures { result ≡ defaultModifier opcode a_mode b_mode }
+    ensures { result ≡ default_modifier opcode a_mode b_mode }
 {
     match opcode as u64 {
         DAT => F,
@@ -47,7 +47,7 @@ fn default_modifier(opcode: u8, a_mode: u8, b_mode: u8) -> u8
 
 // The default modifier of these codes; 255 where there is none, or a code is out of range.
 fn default_of(opcode: u8, a_mode: u8, b_mode: u8) -> u8
-    ensures { result ≡ defaultOf opcode a_mode b_mode }
+    ensures { result ≡ default_of opcode a_mode b_mode }
 {
     if !in_range(opcode, a_mode, b_mode) {
         return UNNAMED;
@@ -57,7 +57,7 @@ fn default_of(opcode: u8, a_mode: u8, b_mode: u8) -> u8
 
 // Whether these codes have a default: all in range do, but LDP and STP without `#`.
 pub fn has_default(opcode: u8, a_mode: u8, b_mode: u8) -> bool
-    ensures { result ≡ leb (defaultOf opcode a_mode b_mode) I }
+    ensures { result ≡ leb (default_of opcode a_mode b_mode) I }
 {
     if !in_range(opcode, a_mode, b_mode) {
         return false;
@@ -77,7 +77,7 @@ pub struct Defaulted {
 
 // The default modifier of an instruction that names none.
 pub fn default_88_to_94(opcode: u8, a_mode: u8, b_mode: u8) -> Defaulted
-    ensures { (told result.answer ≡ toldOf (defaultOf opcode a_mode b_mode)) × (result.modifier ≡ defaultOf opcode a_mode b_mode) }
+    ensures { (told result.answer ≡ told_of (default_of opcode a_mode b_mode)) × (result.modifier ≡ default_of opcode a_mode b_mode) }
 {
     let modifier = default_of(opcode, a_mode, b_mode);
     if modifier == UNNAMED {
@@ -105,7 +105,7 @@ const FIELD_PAIRS: [[u64; 4]; 7] = [
 
 // The field pairs of the seven modifiers, a field by its first bit.
 pub fn field_pairs() -> [[u64; 4]; 7]
-    ensures { result ≡ fieldPairs }
+    ensures { result ≡ field_pairs }
 {
     FIELD_PAIRS
 }

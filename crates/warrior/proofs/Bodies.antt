@@ -17,7 +17,7 @@ use Rattle.offset.specs.Offset.{ahead}
 use Rattle.program.specs.Program.{cells}
 use Rattle.program.proofs.Program.{length-cells, cells-from}
 use Rattle.machine.specs.Load.{placed}
-use Rattle.warrior.specs.Tested.{placedIf}
+use Rattle.warrior.specs.Tested.{placed_if}
 
 -- a body that fits before the end
 placed-before : (core ws : List ℕ) (p : ℕ) → p + length ws ≤ length core → placed core p ws ≡ sets core p ws
@@ -69,17 +69,17 @@ placed-is core (w ∷ ws) p h l =
 
 -- a body placed by two stores of as many words as there is room for, or not placed
 module _ (core : List ℕ) (place size : ℕ) (body : List ℕ) where
-  pub no_place : length core ≤ place → core ≡ placedIf core place (cells size body)
-  unfolding placedIf
+  pub no_place : length core ≤ place → core ≡ placed_if core place (cells size body)
+  unfolding placed_if
   no_place h = simp (le-ltb _ _ h)
 
-  pub too_long : length core < length body / 12 → core ≡ placedIf core place (cells size body)
-  unfolding placedIf
+  pub too_long : length core < length body / 12 → core ≡ placed_if core place (cells size body)
+  unfolding placed_if
   too_long h = simp (lt-leb (length (cells size body)) (length core) (rw (length-cells size body) h), and-false)
 
   module _ (p : place < length core) (l : length body / 12 ≤ length core) where
-    is : placedIf core place (cells size body) ≡ sets (sets core place (cells size body)) 0 (drop (length core - place) (cells size body))
-    unfolding placedIf
+    is : placed_if core place (cells size body) ≡ sets (sets core place (cells size body)) 0 (drop (length core - place) (cells size body))
+    unfolding placed_if
     is =
         simp (lt-ltb place (length core) p, le-leb (length (cells size body)) (length core) (rw (length-cells size body) l))
         (placed-is core (cells size body) place p (rw (length-cells size body) l))
@@ -89,7 +89,7 @@ module _ (core : List ℕ) (place size : ℕ) (body : List ℕ) where
     first-written e = rw e (part-written core (cells size body) place (omega arith))
 
     pub in_one : {part : List ℕ} → length body / 12 ≤ length core - place → part ≡ sets (take (length core - place) (drop place core)) 0 (cells size body)
-        → take place core ++ (part ++ drop (length core - place) (drop place core)) ≡ placedIf core place (cells size body)
+        → take place core ++ (part ++ drop (length core - place) (drop place core)) ≡ placed_if core place (cells size body)
     in_one g e =
         first-written e
         ∙ sym (is ∙ ap (sets (sets core place (cells size body)) 0) (drop_of_length-le (cells size body) {i = length core - place} (rw (length-cells size body) g)))
@@ -97,7 +97,7 @@ module _ (core : List ℕ) (place size : ℕ) (body : List ℕ) where
     pub in_two : {after part : List ℕ} → length core - place < length body / 12 → part ≡ sets (take (length core - place) (drop place core)) 0 (cells size body)
         → after ≡ sets (take place core ++ (part ++ drop (length core - place) (drop place core))) 0
         (cells size (take (length body - 12 * (length core - place)) (drop (12 * (length core - place)) body)))
-        → after ≡ placedIf core place (cells size body)
+        → after ≡ placed_if core place (cells size body)
     in_two g e f =
         f
         ∙ ap₂ (λ (c ws : List ℕ). sets c 0 ws) (first-written e)

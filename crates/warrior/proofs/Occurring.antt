@@ -5,15 +5,15 @@ use mathlib.Core.List.{List, [], ◌∷◌, ◌++◌, map}
 use Prim.Native.Nat.{ℕ, zero, suc, ◌+◌}
 use lib.ListN.{replicate}
 use Rattle.answer.specs.Numbers.{gives}
-use Rattle.cell.specs.Cells.{soundWord}
-use Rattle.program.specs.Program.{lawful, lowestFault, cells}
-use Rattle.machine.specs.State.{ofSize, Machine, Outcome, toldBy}
+use Rattle.cell.specs.Cells.{sound_word}
+use Rattle.program.specs.Program.{lawful, lowest_fault, cells}
+use Rattle.machine.specs.State.{of_size, Machine, Outcome, told_by}
 use Rattle.machine.specs.Names.{register, numbered}
 use Rattle.machine.specs.Queue.{push, started}
-use Rattle.machine.specs.Soundness.{soundHeader}
+use Rattle.machine.specs.Soundness.{sound_header}
 use Rattle.machine.specs.Fresh.{blank, fresh}
 use Rattle.machine.specs.Load.{loaded, load}
-use Rattle.lent.specs.Parts.{names_of, noRing, headerOf, machine_of}
+use Rattle.lent.specs.Parts.{names_of, no_ring, header_of, machine_of}
 
 -- DAT.F $0,$0, and an instruction with no such opcode
 abbrev pub dat : List ℕ
@@ -24,7 +24,7 @@ bad = 19 ∷ 4 ∷ 1 ∷ 1 ∷ replicate 8 0
 
 -- a fresh machine of 2 cells
 abbrev pub two : ℕ → Machine
-two limit = (fresh (ofSize 2) (0 ∷ 0 ∷ []) (replicate limit 0)).machine
+two limit = (fresh (of_size 2) (0 ∷ 0 ∷ []) (replicate limit 0)).machine
 
 -- n names of one byte each, loaded one after the other
 abbrev pub crowd : ℕ → Machine → Machine
@@ -33,17 +33,17 @@ crowd (suc n) m = crowd n (load m ((65 + n) ∷ []) dat 65535 0).machine
 
 -- one name with the greatest next thread number, and no entry
 abbrev pub worn : Machine
-worn = machine_of (two 1).core (0 ∷ []) (headerOf (ofSize 2) noRing (names_of 1 (65 ∷ replicate 511 0) (1 ∷ replicate 15 0)) (replicate 16 0) (4294967295 ∷ replicate 15 0))
+worn = machine_of (two 1).core (0 ∷ []) (header_of (of_size 2) no_ring (names_of 1 (65 ∷ replicate 511 0) (1 ∷ replicate 15 0)) (replicate 16 0) (4294967295 ∷ replicate 15 0))
 
 unfoldable pub outcomes : List Outcome
-unfolding soundWord lawful lowestFault cells register numbered push started soundHeader fresh loaded load
+unfolding sound_word lawful lowest_fault cells register numbered push started sound_header fresh loaded load
 outcomes =
-    fresh (ofSize 2) (0 ∷ 0 ∷ []) (0 ∷ [])
-    ∷ fresh (ofSize 0) [] (0 ∷ [])
-    ∷ fresh (ofSize 2) (0 ∷ []) (0 ∷ [])
+    fresh (of_size 2) (0 ∷ 0 ∷ []) (0 ∷ [])
+    ∷ fresh (of_size 0) [] (0 ∷ [])
+    ∷ fresh (of_size 2) (0 ∷ []) (0 ∷ [])
     ∷ fresh (record { size = 2; read = 2; write = 0 }) (0 ∷ 0 ∷ []) (0 ∷ [])
     ∷ load (two 1) [] dat 65535 0
-    ∷ load (machine_of (0 ∷ []) (0 ∷ []) (blank (ofSize 2))) [] dat 65535 0
+    ∷ load (machine_of (0 ∷ []) (0 ∷ []) (blank (of_size 2))) [] dat 65535 0
     ∷ load (two 1) [] (dat ++ (dat ++ dat)) 65535 0
     ∷ load (two 1) [] (dat ++ bad) 65535 0
     ∷ load (two 1) (32 ∷ []) dat 65535 0
@@ -53,7 +53,7 @@ outcomes =
     ∷ load worn (65 ∷ []) dat 65535 0
     ∷ []
 
-pub each-occurs : map toldBy outcomes
+pub each-occurs : map told_by outcomes
     ≡ gives 0 0 ∷ gives 1 0 ∷ gives 2 0 ∷ gives 14 0 ∷ gives 0 0 ∷ gives 9 0 ∷ gives 3 0 ∷ gives 4 1 ∷ gives 5 0 ∷ gives 5 0 ∷ gives 6 0 ∷ gives 6 0 ∷ gives 8 0 ∷ []
 unfolding outcomes
 each-occurs = refl

@@ -17,23 +17,23 @@ use Rattle.offset.specs.Offset.{ahead}
 use Rattle.program.specs.Program.{instructions, cells}
 use Rattle.program.proofs.Program.{cells-le}
 use Rattle.metadata.specs.Metadata.{called}
-use Rattle.machine.specs.State.{Machine, under, withCore, done, Verdict, accepted, refusal, first, settle}
+use Rattle.machine.specs.State.{Machine, under, with_core, done, Verdict, accepted, refusal, first, settle}
 use Rattle.machine.specs.Names.{slot, register, registered}
 use Rattle.machine.specs.Queue.{started}
-use Rattle.machine.specs.Soundness.{soundHeader}
-use Rattle.machine.specs.Load.{placed, origin_of, placeChecks, startChecks, loadChecks, loaded, load}
+use Rattle.machine.specs.Soundness.{sound_header}
+use Rattle.machine.specs.Load.{placed, origin_of, place_checks, start_checks, load_checks, loaded, load}
 use Rattle.machine.proofs.Soundness.{tested}
-use Rattle.lent.specs.Parts.{startIf}
-use Rattle.lent.specs.Given.{given, givenBy}
+use Rattle.lent.specs.Parts.{start_if}
+use Rattle.lent.specs.Given.{given, given_by}
 use Rattle.queue.proofs.Rings.{inside, room}
-use Rattle.load_checks.specs.Refusal.{testedChecks}
+use Rattle.load_checks.specs.Refusal.{tested_checks}
 use Rattle.load_checks.proofs.Index.{slot-le, new_is}
-use Rattle.warrior.specs.Tested.{placedIf, loadedIf, loadTested}
-use Rattle.warrior.specs.inner.Accepted.{Accepted}
+use Rattle.warrior.specs.Tested.{placed_if, loaded_if, load_tested}
+use Rattle.warrior.specs.Inner.Accepted.{Accepted}
 use Rattle.warrior.proofs.Loading.{accepted-called}
 
 -- a warrior that passed the checks, in a record with a sound header
-module _ (m : Machine) (name body : List ℕ) (place i : ℕ) (a : Accepted m name body place i) (sound : soundHeader m ≡ true) where
+module _ (m : Machine) (name body : List ℕ) (place i : ℕ) (a : Accepted m name body place i) (sound : sound_header m ≡ true) where
   -- the count and the next thread number of the name can rise
   risen : (get_or (registered m.header name).counts i 0 ≡ 4294967295 → ⊥) × (get_or (registered m.header name).threads i 0 ≡ 4294967295 → ⊥)
   unfolding register
@@ -71,19 +71,19 @@ module _ (m : Machine) (name body : List ℕ) (place i : ℕ) (a : Accepted m na
       go false = refl
 
   -- so the process is started
-  starts : (at : ℕ) (core : List ℕ) → let n = withCore core (under (registered m.header name) m) in startIf at i n ≡ started at i n
-  unfolding startIf
+  starts : (at : ℕ) (core : List ℕ) → let n = with_core core (under (registered m.header name) m) in start_if at i n ≡ started at i n
+  unfolding start_if
   starts at core =
       let t = tested m sound in
-      let n = withCore core (under (registered m.header name) m) in
+      let n = with_core core (under (registered m.header name) m) in
       let v : length m.queue ≤ 65535 = leb-true (length m.queue) 65535 (both (leb 1 (length m.queue)) (leb (length m.queue) 65535) t.queue).1 in
       let h : m.header.ring.head < length m.queue = t.head in
       simp
       (room n i (inside n v (rw ring-stays h)) (rw ring-stays (leb-false _ _ a.room)) a.free risen.0, ne_eqb (get_or (registered m.header name).threads i 0) 4294967295 risen.1)
 
   -- and the body is placed
-  body-placed : placedIf m.core place (cells m.header.rules.size body) ≡ placed m.core place (cells m.header.rules.size body)
-  unfolding placedIf
+  body-placed : placed_if m.core place (cells m.header.rules.size body) ≡ placed m.core place (cells m.header.rules.size body)
+  unfolding placed_if
   body-placed =
       let c = (tested m sound).core in
       let p : place < m.header.rules.size = a.below in
@@ -96,40 +96,40 @@ module _ (m : Machine) (name body : List ℕ) (origin place : ℕ) where
   at = ahead m.header.rules.size place (origin_of origin)
 
   abbrev under-name : List ℕ → Machine
-  under-name core = withCore core (under (registered m.header (called name)) m)
+  under-name core = with_core core (under (registered m.header (called name)) m)
 
   -- a warrior that passed the checks is loaded
-  is-loaded : soundHeader m ≡ true → first (testedChecks m name body place) ≡ accepted → loadedIf m (called name) body origin place ≡ loaded m (called name) body origin place
-  unfolding loadedIf loaded
+  is-loaded : sound_header m ≡ true → first (tested_checks m name body place) ≡ accepted → loaded_if m (called name) body origin place ≡ loaded m (called name) body origin place
+  unfolding loaded_if loaded
   is-loaded sound e =
       let i = slot m.header.names (called name) in
       let a = accepted-called m name body place e in
-      ap (λ (c : List ℕ). done (startIf at i (under-name c)) (instructions body) 1) (body-placed m (called name) body place i a sound)
+      ap (λ (c : List ℕ). done (start_if at i (under-name c)) (instructions body) 1) (body-placed m (called name) body place i a sound)
       ∙ ap (λ (n : Machine). done n (instructions body) 1) (starts m (called name) body place i a sound at (placed m.core place (cells m.header.rules.size body)))
 
   -- the rows after the header's
   abbrev rest : Verdict
-  rest = first (placeChecks m name body place ++ startChecks m name)
+  rest = first (place_checks m name body place ++ start_checks m name)
 
-  tested-rows : soundHeader m ≡ true → first (testedChecks m name body place) ≡ rest
+  tested-rows : sound_header m ≡ true → first (tested_checks m name body place) ≡ rest
   tested-rows sound = simp (le-ltb 16 m.header.names.held (tested m sound).few)
 
-  load-rows : soundHeader m ≡ true → first (loadChecks m name body place) ≡ rest
+  load-rows : sound_header m ≡ true → first (load_checks m name body place) ≡ rest
   load-rows sound = simp sound
 
-  pub tested-load : soundHeader m ≡ true → loadTested m name body origin place ≡ load m name body origin place
-  unfolding loadTested load
+  pub tested-load : sound_header m ≡ true → load_tested m name body origin place ≡ load m name body origin place
+  unfolding load_tested load
   tested-load sound =
-      ap (λ (v : Verdict). settle v m (loadedIf m (called name) body origin place)) (tested-rows sound)
+      ap (λ (v : Verdict). settle v m (loaded_if m (called name) body origin place)) (tested-rows sound)
       ∙ go rest (tested-rows sound)
       ∙ sym (ap (λ (v : Verdict). settle v m (loaded m (called name) body origin place)) (load-rows sound))
     where
-      go : (v : Verdict) → first (testedChecks m name body place) ≡ v
-          → settle v m (loadedIf m (called name) body origin place) ≡ settle v m (loaded m (called name) body origin place)
+      go : (v : Verdict) → first (tested_checks m name body place) ≡ v
+          → settle v m (loaded_if m (called name) body origin place) ≡ settle v m (loaded m (called name) body origin place)
       go accepted e = is-loaded sound e
       go (refusal n v) e = refl
 
   -- an unsound header is refused
-  pub unsound-load : soundHeader m ≡ false → given (gives 9 0) 0 0 m ≡ givenBy (load m name body origin place)
+  pub unsound-load : sound_header m ≡ false → given (gives 9 0) 0 0 m ≡ given_by (load m name body origin place)
   unfolding load
   unsound-load s = simp s

@@ -4,10 +4,10 @@
 ghost use Rattle.std.specs.Prelude.{◌≡◌, cond, ℕ, ◌<◌, eqb, length};
 ghost use Rattle.answer.specs.Numbers.{told};
 ghost use Rattle.machine.specs.Load as spec;
-ghost use Rattle.lent.specs.Parts.{names_of, named_of, parts, machine_of, registerIf};
-ghost use Rattle.lent.specs.Given.{given, givenBy};
-ghost use Rattle.warrior.specs.Tested.{loadedIf, loadTested};
-ghost use Rattle.warrior.specs.inner.Accepted.{Accepted};
+ghost use Rattle.lent.specs.Parts.{names_of, named_of, parts, machine_of, register_if};
+ghost use Rattle.lent.specs.Given.{given, given_by};
+ghost use Rattle.warrior.specs.Tested.{loaded_if, load_tested};
+ghost use Rattle.warrior.specs.Inner.Accepted.{Accepted};
 
 use crate::placing::place_body;
 use answer::{Answer, number};
@@ -53,7 +53,7 @@ fn registered(
     name: &[u8],
 ) -> u32
     ensures { named_of (names_of result names.new lengths.new) counts.new threads.new
-        ≡ cond (eqb i held) (registerIf (named_of (names_of held names.old lengths.old) counts.old threads.old) name.now)
+        ≡ cond (eqb i held) (register_if (named_of (names_of held names.old lengths.old) counts.old threads.old) name.now)
         (named_of (names_of held names.old lengths.old) counts.old threads.old) }
 {
     if i == held {
@@ -82,7 +82,7 @@ fn accept(
     requires { (steps : ℕ) → Accepted (parts core.old queue.old rules ring steps (names_of held names.old lengths.old) counts.old threads.old) name.now body.now place i }
     ensures { (steps : ℕ) → given (told result.answer) result.writes 0
         (parts core.new queue.new rules result.ring steps (names_of result.held names.new lengths.new) counts.new threads.new)
-        ≡ givenBy (loadedIf (parts core.old queue.old rules ring steps (names_of held names.old lengths.old) counts.old threads.old)
+        ≡ given_by (loaded_if (parts core.old queue.old rules ring steps (names_of held names.old lengths.old) counts.old threads.old)
         name.now body.now origin place) }
 {
     let more = registered(names, lengths, counts, threads, held, i, name);
@@ -117,7 +117,7 @@ fn load_named(
     requires { 0 < length name.now }
     ensures { (steps : ℕ) → given (told result.answer) result.writes 0
         (parts core.new queue.new rules result.ring steps (names_of result.held names.new lengths.new) counts.new threads.new)
-        ≡ givenBy (loadTested (parts core.old queue.old rules ring steps (names_of held names.old lengths.old) counts.old threads.old)
+        ≡ given_by (load_tested (parts core.old queue.old rules ring steps (names_of held names.old lengths.old) counts.old threads.old)
         name.now body.now origin place) }
 {
     let answer = refusal(
@@ -156,7 +156,7 @@ pub fn load_parts(
 ) -> Loaded
     ensures { (steps : ℕ) → given (told result.answer) result.writes 0
         (parts core.new queue.new rules result.ring steps (names_of result.held names.new lengths.new) counts.new threads.new)
-        ≡ givenBy (loadTested (parts core.old queue.old rules ring steps (names_of held names.old lengths.old) counts.old threads.old)
+        ≡ given_by (load_tested (parts core.old queue.old rules ring steps (names_of held names.old lengths.old) counts.old threads.old)
         name.now body.now origin place) }
 {
     if name.len() == 0 {
@@ -193,7 +193,7 @@ fn load_apart(
     place: u32,
 ) -> Outcome
     ensures { given (told result.answer) result.writes result.steps (machine_of core.new queue.new result.header)
-        ≡ givenBy (loadTested (machine_of core.old queue.old h) name.now body.now origin place) }
+        ≡ given_by (load_tested (machine_of core.old queue.old h) name.now body.now origin place) }
 {
     let rules = h.rules;
     let mut bytes = h.names.bytes;
@@ -248,7 +248,7 @@ pub fn load(
     place: u32,
 ) -> Outcome
     ensures { given (told result.answer) result.writes result.steps (machine_of core.new queue.new result.header)
-        ≡ givenBy (spec.load (machine_of core.old queue.old h) name.now body.now origin place) }
+        ≡ given_by (spec.load (machine_of core.old queue.old h) name.now body.now origin place) }
 {
     if !sound_header(
         core,

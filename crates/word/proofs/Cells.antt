@@ -7,12 +7,12 @@ use lib.Dec.{eqb}
 use native.Mathlib.Nat.{mod-lt}
 use native.Mathlib.Omega.{arith}
 use Rattle.offset.specs.Offset.{ahead}
-use Rattle.types.specs.Types.{Field, A, B, firstBit}
-use Rattle.cell.specs.Cells.{packed, unpacked, soundWord, number, with_number}
+use Rattle.types.specs.Types.{Field, A, B, first_bit}
+use Rattle.cell.specs.Cells.{packed, unpacked, sound_word, number, with_number}
 use Rattle.offset.proofs.Offsets.{sum_is}
 use Rattle.cell.proofs.Words.{pack-unpack}
 use Rattle.cell.proofs.Soundness.{sound-fields, fields-sound}
-use Rattle.word.specs.Words.{fieldBy, Reduced}
+use Rattle.word.specs.Words.{field_by, Reduced}
 
 -- what lies ahead of a place of the core is one
 pub ahead-below : {size k : ℕ} (a b : ℕ) → k < size → ahead size a b < size
@@ -26,33 +26,33 @@ reduced {size} {k} a b {r} h e = record { is = is; below = rw is (ahead-below a 
     is = sum_is size (λ z. omega arith) e
 
 -- a sound word is the word of its cell
-pub whole : (size w : ℕ) → soundWord size w ≡ true → packed (unpacked w) ≡ w
+pub whole : (size w : ℕ) → sound_word size w ≡ true → packed (unpacked w) ≡ w
 whole size w e = pack-unpack w (sound-fields size w e).0
 
-pub number-below : (f : Field) (size w : ℕ) → soundWord size w ≡ true → number f (unpacked w) < size
+pub number-below : (f : Field) (size w : ℕ) → sound_word size w ≡ true → number f (unpacked w) < size
 number-below A size w e = (sound-fields size w e).1.a
 number-below B size w e = (sound-fields size w e).1.b
 
-pub with-sound : (f : Field) (size w n : ℕ) → size ≤ 46341 → soundWord size w ≡ true → n < size
-    → soundWord size (packed (with_number f n (unpacked w))) ≡ true
+pub with-sound : (f : Field) (size w n : ℕ) → size ≤ 46341 → sound_word size w ≡ true → n < size
+    → sound_word size (packed (with_number f n (unpacked w))) ≡ true
 with-sound A size w n l e h =
     let s = (sound-fields size w e).1 in
     fields-sound size _ (omega arith)
-    (record { opcode = s.opcode; modifier = s.modifier; a-mode = s.a-mode; b-mode = s.b-mode; a = h; b = s.b })
+    (record { opcode = s.opcode; modifier = s.modifier; a_mode = s.a_mode; b_mode = s.b_mode; a = h; b = s.b })
 with-sound B size w n l e h =
     let s = (sound-fields size w e).1 in
     fields-sound size _ (omega arith)
-    (record { opcode = s.opcode; modifier = s.modifier; a-mode = s.a-mode; b-mode = s.b-mode; a = s.a; b = h })
+    (record { opcode = s.opcode; modifier = s.modifier; a_mode = s.a_mode; b_mode = s.b_mode; a = s.a; b = h })
 
 -- a field is the one that begins at its first bit
-pub field_at : (f : Field) → fieldBy (firstBit f) ≡ f
+pub field_at : (f : Field) → field_by (first_bit f) ≡ f
 field_at A = refl
 field_at B = refl
 
 -- a number read, and a number written, by the first bit of a field
-pub number_by : (f : Field) (w : ℕ) {bit n : ℕ} → bit ≡ firstBit f → n ≡ number (fieldBy bit) (unpacked w) → n ≡ number f (unpacked w)
-number_by f w e h = h ∙ ap (λ (g : Field). number g (unpacked w)) (ap fieldBy e ∙ field_at f)
+pub number_by : (f : Field) (w : ℕ) {bit n : ℕ} → bit ≡ first_bit f → n ≡ number (field_by bit) (unpacked w) → n ≡ number f (unpacked w)
+number_by f w e h = h ∙ ap (λ (g : Field). number g (unpacked w)) (ap field_by e ∙ field_at f)
 
-pub with-by : (f : Field) (w n : ℕ) {bit v : ℕ} → bit ≡ firstBit f → v ≡ packed (with_number (fieldBy bit) n (unpacked w))
+pub with-by : (f : Field) (w n : ℕ) {bit v : ℕ} → bit ≡ first_bit f → v ≡ packed (with_number (field_by bit) n (unpacked w))
     → v ≡ packed (with_number f n (unpacked w))
-with-by f w n e h = h ∙ ap (λ (g : Field). packed (with_number g n (unpacked w))) (ap fieldBy e ∙ field_at f)
+with-by f w n e h = h ∙ ap (λ (g : Field). packed (with_number g n (unpacked w))) (ap field_by e ∙ field_at f)

@@ -5,8 +5,8 @@ use Rattle.offset.specs.Offset.{ahead}
 use Rattle.types.specs.Types.{Field, A, B}
 
 -- a field by its first bit: 16 is the A field's, and any other number is taken for the B field's
-abbrev pub fieldBy : ℕ → Field
-fieldBy bit = cond (eqb bit 16) A B
+abbrev pub field_by : ℕ → Field
+field_by bit = cond (eqb bit 16) A B
 
 -- a sum, reduced to a place or a number of the core
 pub record Reduced (size a b r : ℕ) : Type 0 where

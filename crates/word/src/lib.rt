@@ -3,7 +3,7 @@
 
 ghost use Rattle.std.specs.Prelude.{◌≡◌};
 ghost use Rattle.cell.specs.Cells as spec;
-ghost use Rattle.word.specs.Words.{fieldBy};
+ghost use Rattle.word.specs.Words.{field_by};
 
 use cell::{with_a, with_b};
 use offset::Relative;
@@ -32,7 +32,7 @@ pub fn b_mode(w: u64) -> u64
 
 // The number in a field, which is told by its first bit.
 pub fn number(w: u64, field: u64) -> Relative
-    ensures { result.0 ≡ spec.number (fieldBy field) (spec.unpacked w) }
+    ensures { result.0 ≡ spec.number (field_by field) (spec.unpacked w) }
 {
     if field == A {
         let a = ((w >> 16) & 0xffff) as u32;
@@ -44,7 +44,7 @@ pub fn number(w: u64, field: u64) -> Relative
 
 // The word with another number in a field.
 pub fn with_number(w: u64, field: u64, n: Relative) -> u64
-    ensures { result ≡ spec.packed (spec.with_number (fieldBy field) n.0 (spec.unpacked w)) }
+    ensures { result ≡ spec.packed (spec.with_number (field_by field) n.0 (spec.unpacked w)) }
 {
     if field == A {
         return with_a(w, n);

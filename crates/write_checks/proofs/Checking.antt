@@ -12,11 +12,11 @@ use Rattle.answer.specs.declared.Answer.{Answer}
 use Rattle.answer.specs.declared.Answer.TheVariants.{Done, InvalidCoreSize, WarriorTooLong, InvalidCode, InvalidNameOrPlace, NoRoom}
 use Rattle.answer.specs.Numbers.{Told, told}
 use Rattle.laws.proofs.Tests.{both, and-false}
-use Rattle.program.specs.Program.{instructions, lowestFault}
-use Rattle.metadata.specs.Metadata.{validName}
+use Rattle.program.specs.Program.{instructions, lowest_fault}
+use Rattle.metadata.specs.Metadata.{valid_name}
 use Rattle.machine.specs.State.{Verdict, accepted, refusal, first}
-use Rattle.machine.specs.Soundness.{validSize}
-use Rattle.write_checks.specs.Refusal.{settle, writeChecks, writeTold}
+use Rattle.machine.specs.Soundness.{valid_size}
+use Rattle.write_checks.specs.Refusal.{settle, write_checks, write_told}
 
 -- whether n warriors and one more, with bodies of those lengths, are at most 16 and fit
 module _ (n rest len room : ℕ) where
@@ -40,14 +40,14 @@ module _ (n rest size : ℕ) (name body : List ℕ) (place room : ℕ) where
   long = 4 + 43 * (n + 1) + rest + length body
 
   abbrev Gives : Answer → Type 0
-  Gives A = told A ≡ writeTold size n name body place long room
+  Gives A = told A ≡ write_told size n name body place long room
 
   -- what the first row that applies tells
-  tells : {t : Told} (v : Verdict) → first (writeChecks size n name body place long room) ≡ v → t ≡ (settle v [] []).told → t ≡ writeTold size n name body place long room
-  unfolding writeTold
+  tells : {t : Told} (v : Verdict) → first (write_checks size n name body place long room) ≡ v → t ≡ (settle v [] []).told → t ≡ write_told size n name body place long room
+  unfolding write_told
   tells v e t = t ∙ ap (λ (v : Verdict). (settle v [] []).told) (sym e)
 
-  refused : validSize size ≡ false → Gives InvalidCoreSize
+  refused : valid_size size ≡ false → Gives InvalidCoreSize
   refused t = tells (refusal 1 0) (simp t) refl
 
   pub too_small : size < 1 → Gives InvalidCoreSize
@@ -57,27 +57,27 @@ module _ (n rest size : ℕ) (name body : List ℕ) (place room : ℕ) where
   too_large l = refused (simp (lt-leb size 46341 l, and-false))
 
   module _ (l₁ : 1 ≤ size) (l₂ : size ≤ 46341) (count : ℕ) (ec : count ≡ instructions body) where
-    sized : validSize size ≡ true
+    sized : valid_size size ≡ true
     sized = simp (le-leb 1 size l₁, le-leb size 46341 l₂)
 
     pub too_long : size < count → Gives WarriorTooLong
     too_long h = tells (refusal 3 0) (simp (sized, lt-ltb size (instructions body) (omega arith))) refl
 
-    module _ (l : count ≤ size) (fault : ℕ) (ef : fault ≡ lowestFault body) where
+    module _ (l : count ≤ size) (fault : ℕ) (ef : fault ≡ lowest_fault body) where
       fits : ltb size (instructions body) ≡ false
       fits = le-ltb size (instructions body) (omega arith)
 
       pub bad-code : fault < count → Gives (InvalidCode fault)
-      bad-code h = tells (refusal 4 (lowestFault body)) (simp (sized, fits, lt-ltb (lowestFault body) (instructions body) (omega arith))) (ap (λ (k : ℕ). told (InvalidCode k)) ef)
+      bad-code h = tells (refusal 4 (lowest_fault body)) (simp (sized, fits, lt-ltb (lowest_fault body) (instructions body) (omega arith))) (ap (λ (k : ℕ). told (InvalidCode k)) ef)
 
       module _ (k : count ≤ fault) where
-        lawful-body : ltb (lowestFault body) (instructions body) ≡ false
-        lawful-body = le-ltb (lowestFault body) (instructions body) (omega arith)
+        lawful-body : ltb (lowest_fault body) (instructions body) ≡ false
+        lawful-body = le-ltb (lowest_fault body) (instructions body) (omega arith)
 
-        pub bad-name : validName name ≡ false → Gives InvalidNameOrPlace
+        pub bad-name : valid_name name ≡ false → Gives InvalidNameOrPlace
         bad-name h = tells (refusal 5 0) (simp (sized, fits, lawful-body, h)) refl
 
-        module _ (v : validName name ≡ true) where
+        module _ (v : valid_name name ≡ true) where
           pub bad-place : size ≤ place → Gives InvalidNameOrPlace
           bad-place h = tells (refusal 5 0) (simp (sized, fits, lawful-body, v, le-leb size place h)) refl
 

@@ -3,10 +3,10 @@
 use Rattle.std.specs.Prelude.{ℕ, not, ◌||◌, List, [], ◌∷◌, ◌++◌, leb, ltb, length, drop}
 use Rattle.answer.specs.declared.Answer.{Answer}
 use Rattle.answer.specs.Numbers.{Told, told, gives}
-use Rattle.program.specs.Program.{instructions, lowestFault}
-use Rattle.metadata.specs.Metadata.{validName}
+use Rattle.program.specs.Program.{instructions, lowest_fault}
+use Rattle.metadata.specs.Metadata.{valid_name}
 use Rattle.machine.specs.State.{Check, check, Verdict, accepted, refusal, first}
-use Rattle.machine.specs.Soundness.{validSize}
+use Rattle.machine.specs.Soundness.{valid_size}
 
 -- the answer, the length written, and the output afterwards
 pub record Written : Type 0 where
@@ -23,15 +23,15 @@ settle accepted made output = record { told = gives 0 0; length = length made; o
 settle (refusal n v) made output = record { told = gives n v; length = 0; output = output }
 
 -- order of writing past 13: 1, 3, 4, 5, 6. M and a new warrior, beside n others, as a file of that length, in an output of that room
-abbrev pub writeChecks : ℕ → ℕ → List ℕ → List ℕ → ℕ → ℕ → ℕ → List Check
-writeChecks size n name body place long room =
-    check (not (validSize size)) 1
+abbrev pub write_checks : ℕ → ℕ → List ℕ → List ℕ → ℕ → ℕ → ℕ → List Check
+write_checks size n name body place long room =
+    check (not (valid_size size)) 1
     ∷ check (ltb size (instructions body)) 3
-    ∷ record { applies = ltb (lowestFault body) (instructions body); number = 4; value = lowestFault body }
-    ∷ check (not (validName name) || leb size place) 5
+    ∷ record { applies = ltb (lowest_fault body) (instructions body); number = 4; value = lowest_fault body }
+    ∷ check (not (valid_name name) || leb size place) 5
     ∷ check (leb 16 n || ltb room long) 6
     ∷ []
 
 -- the answer alone
-unfoldable pub writeTold : ℕ → ℕ → List ℕ → List ℕ → ℕ → ℕ → ℕ → Told
-writeTold size n name body place long room = (settle (first (writeChecks size n name body place long room)) [] []).told
+unfoldable pub write_told : ℕ → ℕ → List ℕ → List ℕ → ℕ → ℕ → ℕ → Told
+write_told size n name body place long room = (settle (first (write_checks size n name body place long room)) [] []).told

@@ -3,7 +3,7 @@
 
 ghost use Rattle.std.specs.Prelude.{◌≡◌, ◌&&◌, ◌+◌, ◌*◌, leb, ltb, length};
 ghost use Rattle.answer.specs.Numbers.{told};
-ghost use Rattle.write_checks.specs.Refusal.{writeTold};
+ghost use Rattle.write_checks.specs.Refusal.{write_told};
 
 use answer::Answer;
 use machine::limits::LARGEST_CORE;
@@ -37,7 +37,7 @@ pub fn refusal(
     place: u32,
     room: usize,
 ) -> Answer
-    ensures { told result ≡ writeTold size n name.now body.now place (4 + 43 * (n + 1) + rest + length body.now) room }
+    ensures { told result ≡ write_told size n name.now body.now place (4 + 43 * (n + 1) + rest + length body.now) room }
 {
     if size < 1 {
         return Answer::InvalidCoreSize;

@@ -4,7 +4,7 @@ use native.Mathlib.Omega.{arith}
 use Rattle.match_format.proofs.Whole.{head_ok}
 use Rattle.match_file.proofs.Values.{number_read}
 use Rattle.lent.specs.Parts.{machine_of}
-use Rattle.lent.specs.Given.{givenBy}
+use Rattle.lent.specs.Given.{given_by}
 use Rattle.soundness.proofs.Headers.{by_parts}
 use Rattle.match_load.specs.Loading.{Loads}
 use Rattle.match_load.proofs.Loading.{stopping, unsound, malformed-file, reads, other-size, then-loads}
@@ -44,4 +44,4 @@ returns c =
     let s = sym (c.sound_header.ensures ∙ by_parts a.core.now a.queue.now a.h) ∙ c.if-not-sound_header.false in
     let e =
     then-loads (machine_of a.core.now a.queue.now a.h) a.file.now s c.read-c.result.answer c.read-c.ensures.0 c.number.ensures c.if-number-ne0.false c.read-c.ensures.2 c.if-c-h.false c.read-c.ensures.1 in
-    (c.load_warriors.ensures.0 ∙ ap (λ (l : Loads). givenBy l.outcome) e, c.load_warriors.ensures.1 ∙ ap (λ (l : Loads). l.warrior) e)
+    (c.load_warriors.ensures.0 ∙ ap (λ (l : Loads). given_by l.outcome) e, c.load_warriors.ensures.1 ∙ ap (λ (l : Loads). l.warrior) e)

@@ -1,7 +1,7 @@
 -- The goals of `program::is_lawful` that the check leaves.
 use mathlib.Core.Path.{refl, ◌∙◌}
 use lib.ListN.{get_or}
-use Rattle.types.specs.Defaults.{defaultOf}
+use Rattle.types.specs.Defaults.{default_of}
 use Rattle.program.proofs.Front.{resolved, named, bad_opcode, bad_a-mode, bad_b-mode, modifier_decides}
 use Rattle.program.proofs.is_lawful.Goals as goal
 
@@ -18,7 +18,7 @@ pub returns-then-modifier : goal.returns-then-modifier
 returns-then-modifier c =
     let f = c.args.front.now in
     c.has_default.ensures
-    ∙ modifier_decides f c.requires (defaultOf (get_or f 0 0) (get_or f 2 0) (get_or f 3 0)) (resolved f c.if-modifier.true refl) c.if-front.false c.if-front-2.false c.if-front-3.false
+    ∙ modifier_decides f c.requires (default_of (get_or f 0 0) (get_or f 2 0) (get_or f 3 0)) (resolved f c.if-modifier.true refl) c.if-front.false c.if-front-2.false c.if-front-3.false
 
 pub returns : goal.returns
 returns c =

@@ -1,5 +1,5 @@
 -- The goals of `refusal::changed` that the check leaves.
-use Rattle.address.specs.Rounding.{fieldThrough}
+use Rattle.address.specs.Rounding.{field_through}
 use Rattle.word.proofs.Cells.{number_by, with-by}
 use Rattle.refusal.proofs.Looking.{left_alone, left-lower, left-higher}
 use Rattle.refusal.proofs.changed.Goals as goal
@@ -9,12 +9,12 @@ returns-then-mode-lt-PRE_DEC_INDIRECT_A c = left_alone _ _ _ c.if-mode-lt-PRE_DE
 
 pub returns-then-mode-lt-POST_INC_INDIRECT_A : goal.returns-then-mode-lt-POST_INC_INDIRECT_A
 returns-then-mode-lt-POST_INC_INDIRECT_A c =
-    left-lower _ _ _ c.requires.0 (number_by (fieldThrough c.args.mode) _ c.field_of-field.ensures c.number-found.ensures)
+    left-lower _ _ _ c.requires.0 (number_by (field_through c.args.mode) _ c.field_of-field.ensures c.number-found.ensures)
     c.if-mode-lt-PRE_DEC_INDIRECT_A.false c.if-mode-lt-POST_INC_INDIRECT_A.true c.decrement.ensures
-    (with-by (fieldThrough c.args.mode) _ _ c.field_of-field.ensures c.with_number.ensures)
+    (with-by (field_through c.args.mode) _ _ c.field_of-field.ensures c.with_number.ensures)
 
 pub returns : goal.returns
 returns c =
-    left-higher _ _ _ c.requires.0 (number_by (fieldThrough c.args.mode) _ c.field_of-field.ensures c.number-found.ensures)
+    left-higher _ _ _ c.requires.0 (number_by (field_through c.args.mode) _ c.field_of-field.ensures c.number-found.ensures)
     c.if-mode-lt-POST_INC_INDIRECT_A.false c.requires.1 c.increment.ensures
-    (with-by (fieldThrough c.args.mode) _ _ c.field_of-field.ensures c.with_number-2.ensures)
+    (with-by (field_through c.args.mode) _ _ c.field_of-field.ensures c.with_number-2.ensures)

@@ -3,7 +3,7 @@ use mathlib.Core.Path.{◌≡◌, sym, ap, ◌∙◌}
 use mathlib.Core.Bool.{true}
 use native.Mathlib.Omega.{arith}
 use lib.ListN.{get_or}
-use Rattle.cell.specs.Cells.{soundWord}
+use Rattle.cell.specs.Cells.{sound_word}
 use Rattle.scan.proofs.Cells.{further, over}
 use Rattle.scan.proofs.cells_sound.Goals.{then-w-last+else-not-sound-2, else-w-last}
 use Rattle.scan.proofs.cells_sound.Goals as goal
@@ -12,7 +12,7 @@ pub loop-i-preserved : goal.loop-i-preserved
 loop-i-preserved c =
     let a = c.args in
     let k = c.loop-i in
-    let sound = soundWord a.size in
+    let sound = sound_word a.size in
     let both : (sound (get_or a.core.now k.i 0) ≡ true) × (sound c.if-w-last.last ≡ true) =
     elim c.if-w-last.branch [
       | then-w-last+else-not-sound-2 w ↦

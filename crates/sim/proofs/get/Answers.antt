@@ -5,7 +5,7 @@ use lib.IntN.{ℤ}
 use mir.Syntax.{w32}
 use mir.Facts.{to_z-of_z}
 use Rattle.offset.specs.Offset.{euclid}
-use Rattle.machine.specs.Soundness.{soundHeader}
+use Rattle.machine.specs.Soundness.{sound_header}
 use Rattle.lent.specs.Parts.{machine_of}
 use Rattle.soundness.proofs.Headers.{by_parts}
 use Rattle.sim.proofs.CellReading.{unsound-header, place_is, place-lt, unsound-cell, reads}
@@ -21,7 +21,7 @@ pub bounds-core-at : goal.bounds-core-at
 bounds-core-at c =
     let a = c.args in
     let m = machine_of a.core.now a.queue.now a.h in
-    let sound : soundHeader m ≡ true = sym (c.sound_header.ensures ∙ by_parts a.core.now a.queue.now a.h) ∙ c.if-not-sound_header.false in
+    let sound : sound_header m ≡ true = sym (c.sound_header.ensures ∙ by_parts a.core.now a.queue.now a.h) ∙ c.if-not-sound_header.false in
     let place : c.add-place.result.0 ≡ euclid a.number a.h.rules.size =
     place_is m a.number sound (c.reduce.ensures ∙ ap (λ (z : ℤ). euclid z a.h.rules.size) (to_z-of_z {w = w32} c.ranges.number)) c.add-place.ensures in
     place-lt m a.number sound place
@@ -30,7 +30,7 @@ pub returns-then-not-sound : goal.returns-then-not-sound
 returns-then-not-sound c =
     let a = c.args in
     let m = machine_of a.core.now a.queue.now a.h in
-    let sound : soundHeader m ≡ true = sym (c.sound_header.ensures ∙ by_parts a.core.now a.queue.now a.h) ∙ c.if-not-sound_header.false in
+    let sound : sound_header m ≡ true = sym (c.sound_header.ensures ∙ by_parts a.core.now a.queue.now a.h) ∙ c.if-not-sound_header.false in
     let place : c.add-place.result.0 ≡ euclid a.number a.h.rules.size =
     place_is m a.number sound (c.reduce.ensures ∙ ap (λ (z : ℤ). euclid z a.h.rules.size) (to_z-of_z {w = w32} c.ranges.number)) c.add-place.ensures in
     unsound-cell m a.number sound c.unpack-then-not-sound.ensures place (sym c.sound.ensures ∙ c.if-not-sound.true)
@@ -39,7 +39,7 @@ pub returns : goal.returns
 returns c =
     let a = c.args in
     let m = machine_of a.core.now a.queue.now a.h in
-    let sound : soundHeader m ≡ true = sym (c.sound_header.ensures ∙ by_parts a.core.now a.queue.now a.h) ∙ c.if-not-sound_header.false in
+    let sound : sound_header m ≡ true = sym (c.sound_header.ensures ∙ by_parts a.core.now a.queue.now a.h) ∙ c.if-not-sound_header.false in
     let place : c.add-place.result.0 ≡ euclid a.number a.h.rules.size =
     place_is m a.number sound (c.reduce.ensures ∙ ap (λ (z : ℤ). euclid z a.h.rules.size) (to_z-of_z {w = w32} c.ranges.number)) c.add-place.ensures in
     reads m a.number sound c.unpack-2.ensures place (sym c.sound.ensures ∙ c.if-not-sound.false)

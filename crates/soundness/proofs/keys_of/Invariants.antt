@@ -2,7 +2,7 @@
 use mathlib.Core.Path.{◌≡◌}
 use Prim.Native.Nat.{◌-◌, ◌≤◌}
 use lib.ListN.{length}
-use Rattle.soundness.specs.inner.Keys.{Keyed}
+use Rattle.soundness.specs.Inner.Keys.{Keyed}
 use Rattle.soundness.proofs.keys_of.Given as goal
 
 abbrev pub invariant-loop-i : goal.invariant-loop-i

@@ -4,9 +4,9 @@ use Prim.Native.Nat.{ℕ}
 use native.Mathlib.Omega.{arith}
 use lib.Dec.{eqb}
 use lib.ListN.{get_or}
-use Rattle.laws.specs.Lists.{oneIf}
+use Rattle.laws.specs.Lists.{one_if}
 use Rattle.laws.proofs.Loops.{total-further, total-over}
-use Rattle.soundness.specs.inner.Keys.{timesIn}
+use Rattle.soundness.specs.Inner.Keys.{times_in}
 use Rattle.soundness.proofs.Keying.{tally-total}
 use Rattle.soundness.proofs.times.Goals as goal
 
@@ -16,12 +16,12 @@ loop-j-preserved c =
       omega arith,
       omega arith,
       rw c.one_if-n.ensures.0
-          (total-further (λ (k : ℕ). oneIf (eqb (get_or a.keys.now k 0) a.key)) 16 _ _ c.loop-j.invariant.2 c.loop-j-test.true),
+          (total-further (λ (k : ℕ). one_if (eqb (get_or a.keys.now k 0) a.key)) 16 _ _ c.loop-j.invariant.2 c.loop-j-test.true),
     )
 
 pub returns : goal.returns
-unfolding timesIn
+unfolding times_in
 returns c =
     let a = c.args in
-    total-over (λ (k : ℕ). oneIf (eqb (get_or a.keys.now k 0) a.key)) 16 _ _ c.loop-j.invariant.2 c.loop-j-test.false
+    total-over (λ (k : ℕ). one_if (eqb (get_or a.keys.now k 0) a.key)) 16 _ _ c.loop-j.invariant.2 c.loop-j-test.false
     ∙ tally-total (λ (k : ℕ). eqb k a.key) (λ (k : ℕ). get_or a.keys.now k 0) 16 0

@@ -3,7 +3,7 @@ use mathlib.Core.Path.{sym, ap, ◌∙◌}
 use Rattle.machine.specs.declared.Ceiling.TheVariants.{Steps}
 use Rattle.soundness.proofs.Headers.{by_parts}
 use Rattle.lent.specs.Parts.{names_of, parts, unnamed}
-use Rattle.lent.specs.Given.{Given, given, givenBy}
+use Rattle.lent.specs.Given.{Given, given, given_by}
 use Rattle.steps.proofs.Calls.{unsound-run, is-sound}
 use Rattle.steps.proofs.Naming.{naming, sound-ready, unnamed-ready, run-named}
 use Rattle.steps.proofs.run_parts.Goals as goal
@@ -28,4 +28,4 @@ returns c =
     let sound = is-sound m (sym (c.sound_header.ensures ∙ by_parts m.core m.queue m.header) ∙ c.if-not-sound_header.false) c.sized.ensures in
     let lent = unnamed a.core.now a.queue.now a.rules a.ring a.taken a.held a.counts.now a.threads.now in
     ap (λ (x : Given). given x.told x.writes x.steps (naming a.names.now a.lengths.now x.machine)) c.run_loop.ensures
-    ∙ sym (ap givenBy (run-named a.names.now a.lengths.now a.ceiling lent sound))
+    ∙ sym (ap given_by (run-named a.names.now a.lengths.now a.ceiling lent sound))

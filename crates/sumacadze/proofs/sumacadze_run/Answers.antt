@@ -2,7 +2,7 @@
 use Rattle.machine.specs.Run.{run}
 use Rattle.machine.proofs.Run.{run-fixed}
 use Rattle.lent.specs.Parts.{machine_of}
-use Rattle.sumacadze.specs.Report.{ceilingIf}
+use Rattle.sumacadze.specs.Report.{ceiling_if}
 use Rattle.sumacadze.proofs.Changed.{changed-in_numbers}
 use Rattle.sumacadze.proofs.sumacadze_run.Goals as goal
 
@@ -10,5 +10,5 @@ pub returns : goal.returns
 returns c =
     let a = c.args in
     let m = machine_of a.core.now a.queue.now a.header.now in
-    let ceiling = ceilingIf a.said a.ceiling in
+    let ceiling = ceiling_if a.said a.ceiling in
     changed-in_numbers a.header.now (run ceiling m) c.run-s.result.answer c.in_numbers.ensures c.run-s.ensures (run-fixed ceiling m)

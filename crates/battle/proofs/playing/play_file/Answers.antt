@@ -5,7 +5,7 @@ use lib.Seq.{length-take-le}
 use native.Mathlib.Omega.{arith}
 use Rattle.machine.specs.declared.Rules.{Rules}
 use Rattle.machine.specs.Fresh.{fresh}
-use Rattle.battle.specs.Match.{afterFresh}
+use Rattle.battle.specs.Match.{after_fresh}
 use Rattle.battle.proofs.Plays.{refusal-comes, too_long, malformed, too-big, fits}
 use Rattle.battle.proofs.playing.play_file.Goals as goal
 
@@ -35,7 +35,7 @@ returns c =
     let read = c.read-c in
     let core = take read.result.size c.args.core.now in (
       c.play_loaded.ensures.0
-          ∙ ap (λ (r : Rules). afterFresh c.args.file.now (fresh r core c.args.queue.now)) c.of_size-rules.ensures
+          ∙ ap (λ (r : Rules). after_fresh c.args.file.now (fresh r core c.args.queue.now)) c.of_size-rules.ensures
           ∙ fits c.args.file.now (omega (arith, c.if-file-gt32768.false)) read.result.answer read.ensures.0 c.number.ensures
           c.if-number-ne0.false read.ensures.2 (omega (arith, c.if-c-gt8000.false)) core c.args.queue.now
           (length-take-le read.result.size c.args.core.now (omega (arith, c.if-c-gt8000.false, c.requires.0))) c.requires.1,

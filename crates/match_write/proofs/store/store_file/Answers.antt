@@ -3,7 +3,7 @@ use native.Mathlib.Omega.{arith}
 use mathlib.Core.Path.{sym, ◌∙◌}
 use Rattle.laws.proofs.Lists.{to_end}
 use Rattle.match_format.specs.Format.{warrior}
-use Rattle.match_file.specs.Reading.{warriorsAt}
+use Rattle.match_file.specs.Reading.{warriors_at}
 use Rattle.match_format.proofs.Whole.{lines_start}
 use Rattle.match_file.proofs.Warriors.{length-warriors, bodies-are, short-names}
 use Rattle.match_write.proofs.Lines.{rest-length, file-stored}
@@ -21,7 +21,7 @@ returns c =
     let a = s.args in
     let e = s.requires.1.lines in (
       omega (arith, rest-length s.args.file.now s.args.start),
-      file-stored a.size a.n (warriorsAt a.file.now 4 a.n) (warrior a.name.now a.body.now a.origin a.place)
+      file-stored a.size a.n (warriors_at a.file.now 4 a.n) (warrior a.name.now a.body.now a.origin a.place)
           (length-warriors a.file.now 4 a.n) (short-names a.file.now 4 a.start a.n e) s.requires.2
           a.out.now _ _ _ _ _ _ _ _
           c.put.ensures

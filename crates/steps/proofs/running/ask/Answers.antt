@@ -3,7 +3,7 @@ use mathlib.Core.Path.{sym, subst, ◌∙◌}
 use Prim.Native.Nat.{ℕ}
 use Rattle.machine.specs.declared.Ring.{Ring}
 use Rattle.lent.specs.Parts.{unnamed}
-use Rattle.steps.specs.inner.Ready.{Plays}
+use Rattle.steps.specs.Inner.Ready.{Plays}
 use Rattle.steps.proofs.Trust.{not-refused, is-refused}
 use Rattle.steps.proofs.Loop.{giving}
 use Rattle.steps.proofs.Rounds.{refused-call}

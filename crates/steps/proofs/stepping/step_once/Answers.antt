@@ -2,10 +2,10 @@
 use mathlib.Core.Path.{sym, ap, subst, ◌∙◌}
 use lib.ListN.{length}
 use Rattle.machine.specs.declared.Entry.{Entry}
-use Rattle.machine.specs.Pointers.{siteAt}
-use Rattle.machine.specs.Queue.{unpackedEntry}
-use Rattle.machine.specs.Instruction.{effectAt, coreAt, writtenAt}
-use Rattle.steps.specs.inner.Instruction.{Executable, answered}
+use Rattle.machine.specs.Pointers.{site_at}
+use Rattle.machine.specs.Queue.{unpacked_entry}
+use Rattle.machine.specs.Instruction.{effect_at, core_at, written_at}
+use Rattle.steps.specs.Inner.Instruction.{Executable, answered}
 use Rattle.steps.proofs.Executing.{near}
 use Rattle.steps.proofs.Answers.{executes}
 use Rattle.steps.proofs.stepping.step_once.Goals as goal
@@ -13,7 +13,7 @@ use Rattle.steps.proofs.stepping.step_once.Goals as goal
 pub requeue-requires : goal.requeue-requires
 requeue-requires c =
     let a = c.args in
-    let e = c.unpack-e.ensures ∙ ap unpackedEntry c.requires.1 in (
+    let e = c.unpack-e.ensures ∙ ap unpacked_entry c.requires.1 in (
       c.requires.0,
       c.requires.1,
       near _ _ _ _ (subst (λ (e : Entry). Executable a.rules a.core.now e.place.0 a.fetched.cell) (sym e) c.requires.2) _ c.execute-executed.ensures.0,
@@ -23,10 +23,10 @@ pub returns : goal.returns
 returns c =
     let a = c.args in
     let execute = c.execute-executed in
-    let e = c.unpack-e.ensures ∙ ap unpackedEntry c.requires.1 in (
+    let e = c.unpack-e.ensures ∙ ap unpacked_entry c.requires.1 in (
       executes a.core.now a.queue.now a.counts.now a.threads.now a.rules a.head a.length (
-        execute.ensures.0 ∙ ap (λ (e : Entry). answered (effectAt (siteAt a.rules e.place.0) a.core.now).next (length (writtenAt (siteAt a.rules e.place.0) a.core.now))) e,
-        execute.ensures.1 ∙ ap (λ (e : Entry). coreAt (siteAt a.rules e.place.0) a.core.now) e,
+        execute.ensures.0 ∙ ap (λ (e : Entry). answered (effect_at (site_at a.rules e.place.0) a.core.now).next (length (written_at (site_at a.rules e.place.0) a.core.now))) e,
+        execute.ensures.1 ∙ ap (λ (e : Entry). core_at (site_at a.rules e.place.0) a.core.now) e,
       )
           c.requeue.ensures,
       c.requeue.ensures.tail,

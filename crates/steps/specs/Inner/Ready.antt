@@ -4,15 +4,15 @@ use Rattle.std.specs.Prelude.{ℕ, zero, suc, ◌+◌, ◌-◌, ◌≤◌, ◌<�
 use Rattle.answer.specs.declared.Answer.{Answer}
 use Rattle.laws.specs.Lists.{total}
 use Rattle.machine.specs.State.{Machine, Outcome, done, and_then, refusal, first, passes, settle}
-use Rattle.machine.specs.Soundness.{freshChecks}
-use Rattle.machine.specs.Step.{nextChecks, executed}
+use Rattle.machine.specs.Soundness.{fresh_checks}
+use Rattle.machine.specs.Step.{next_checks, executed}
 use Rattle.scan.specs.Scanning.{scanned}
 use Rattle.steps.specs.declared.Ran.{Ran}
-use Rattle.steps.specs.inner.Queueing.{ringOf}
+use Rattle.steps.specs.Inner.Queueing.{ring_of}
 
 -- the tests of its header that a step uses, all but those of the names' bytes, and arrays of their lengths
 pub record Ready (m : Machine) : Type 0 where
-  pub taken : passes (freshChecks m.header.rules m.core m.queue) ≡ true
+  pub taken : passes (fresh_checks m.header.rules m.core m.queue) ≡ true
   pub limit : m.header.ring.length ≤ length m.queue
   pub head : m.header.ring.head < length m.queue
   pub few : m.header.names.held ≤ 16
@@ -22,15 +22,15 @@ pub record Ready (m : Machine) : Type 0 where
 
 -- one step after the test of the header, and up to k steps, up to the first answer not 0
 unfoldable pub step_of : Machine → Outcome
-step_of m = settle (first (nextChecks m)) m (executed m)
+step_of m = settle (first (next_checks m)) m (executed m)
 
-unfoldable pub playsOf : ℕ → Machine → Outcome
-playsOf zero m = done m 0 0
-playsOf (suc k) m = and_then (step_of m) (playsOf k)
+unfoldable pub plays_of : ℕ → Machine → Outcome
+plays_of zero m = done m 0 0
+plays_of (suc k) m = and_then (step_of m) (plays_of k)
 
 -- its next step can be refused by 10 only
 pub record Playable (m : Machine) : Type 0 where
-  pub only : (n v : ℕ) → first (nextChecks m) ≡ refusal n v → n ≡ 10
+  pub only : (n v : ℕ) → first (next_checks m) ≡ refusal n v → n ≡ 10
 
 -- an entry is queued, and the record was looked through for the steps up to a ceiling
 pub record Scanned (ceiling : ℕ) (m : Machine) : Type 0 where
@@ -42,6 +42,6 @@ abbrev pub Plays : ℕ → Machine → Type 0
 Plays ceiling m = Scanned ceiling m ⊎ ((ceiling ≡ m.header.steps + 1) × Playable m)
 
 -- what a run gives back
-abbrev pub ranOf : Answer → ℕ → ℕ → ℕ → ℕ → ℕ → Ran
-ranOf answer writes head length before taken =
-    record { answer = answer; writes = writes; steps = taken - before; ring = ringOf head length; taken = taken }
+abbrev pub ran_of : Answer → ℕ → ℕ → ℕ → ℕ → ℕ → Ran
+ran_of answer writes head length before taken =
+    record { answer = answer; writes = writes; steps = taken - before; ring = ring_of head length; taken = taken }

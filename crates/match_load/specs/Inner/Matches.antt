@@ -1,17 +1,17 @@
 -- Match files loaded in one call, and what came of each: accepted, refused by each row of the order, and stopped at a warrior. The theorem is in proofs/Matches.antt.
 -- Inner. Assumes nothing.
 use Rattle.std.specs.Prelude.{ℕ, List, [], ◌∷◌, ◌++◌, replicate}
-use Rattle.program.specs.Program.{lawful, lowestFault, cells}
-use Rattle.machine.specs.State.{ofSize, Machine}
+use Rattle.program.specs.Program.{lawful, lowest_fault, cells}
+use Rattle.machine.specs.State.{of_size, Machine}
 use Rattle.machine.specs.Names.{register, numbered}
 use Rattle.machine.specs.Queue.{push, started}
-use Rattle.machine.specs.Soundness.{soundHeader}
+use Rattle.machine.specs.Soundness.{sound_header}
 use Rattle.machine.specs.Fresh.{blank, fresh}
 use Rattle.machine.specs.Load.{loaded, load}
 use Rattle.match_format.specs.Format.{warrior, line, file}
-use Rattle.match_format.specs.Faults.{lineFault, linesFault, fault}
+use Rattle.match_format.specs.Faults.{line_fault, lines_fault, fault}
 use Rattle.lent.specs.Parts.{machine_of}
-use Rattle.match_load.specs.Loading.{Loads, loadMatch}
+use Rattle.match_load.specs.Loading.{Loads, load_match}
 
 pub record Row : Type 0 where
   pub got : List ℕ
@@ -33,31 +33,31 @@ bad = 19 ∷ 4 ∷ 1 ∷ 1 ∷ replicate 8 0
 
 -- a fresh machine of 8 cells and that many queue entries
 abbrev eight : ℕ → Machine
-eight entries = (fresh (ofSize 8) (replicate 8 0) (replicate entries 0)).machine
+eight entries = (fresh (of_size 8) (replicate 8 0) (replicate entries 0)).machine
 
 -- its record with one cell too few
 abbrev unsound : Machine
-unsound = machine_of (replicate 7 0) (0 ∷ []) (blank (ofSize 8))
+unsound = machine_of (replicate 7 0) (0 ∷ []) (blank (of_size 8))
 
 -- a file of M and two warriors: A with one NOP, and B with a body, at 4
 abbrev pair : ℕ → List ℕ → List ℕ
 pair size body = file size (warrior (65 ∷ []) nop 0 0 ∷ warrior (66 ∷ []) body 0 4 ∷ [])
 
 unfoldable pub matches : List Row
-unfolding lawful lowestFault cells register numbered push started soundHeader fresh loaded load line file lineFault linesFault fault loadMatch
+unfolding lawful lowest_fault cells register numbered push started sound_header fresh loaded load line file line_fault lines_fault fault load_match
 matches =
     -- both are loaded
-    record { got = told (loadMatch (eight 4) (pair 8 (nop ++ nop))); wanted = 0 ∷ 0 ∷ 0 ∷ 3 ∷ 2 ∷ 2 ∷ [] }
+    record { got = told (load_match (eight 4) (pair 8 (nop ++ nop))); wanted = 0 ∷ 0 ∷ 0 ∷ 3 ∷ 2 ∷ 2 ∷ [] }
     -- warrior 1 is refused with 4, index 1: warrior 0 stands, with its write
-    ∷ record { got = told (loadMatch (eight 4) (pair 8 (nop ++ bad))); wanted = 4 ∷ 1 ∷ 1 ∷ 1 ∷ 1 ∷ 1 ∷ [] }
+    ∷ record { got = told (load_match (eight 4) (pair 8 (nop ++ bad))); wanted = 4 ∷ 1 ∷ 1 ∷ 1 ∷ 1 ∷ 1 ∷ [] }
     -- warrior 0 is refused: none stands
-    ∷ record { got = told (loadMatch (eight 4) (file 8 (warrior [] bad 0 0 ∷ warrior [] nop 0 4 ∷ []))); wanted = 4 ∷ 0 ∷ 0 ∷ 0 ∷ 0 ∷ 0 ∷ [] }
+    ∷ record { got = told (load_match (eight 4) (file 8 (warrior [] bad 0 0 ∷ warrior [] nop 0 4 ∷ []))); wanted = 4 ∷ 0 ∷ 0 ∷ 0 ∷ 0 ∷ 0 ∷ [] }
     -- warrior 1 finds no room
-    ∷ record { got = told (loadMatch (eight 1) (pair 8 nop)); wanted = 6 ∷ 0 ∷ 1 ∷ 1 ∷ 1 ∷ 1 ∷ [] }
+    ∷ record { got = told (load_match (eight 1) (pair 8 nop)); wanted = 6 ∷ 0 ∷ 1 ∷ 1 ∷ 1 ∷ 1 ∷ [] }
     -- an M unlike the machine's, of a core or not
-    ∷ record { got = told (loadMatch (eight 4) (pair 9 nop)); wanted = 1 ∷ 0 ∷ 0 ∷ 0 ∷ 0 ∷ 0 ∷ [] }
-    ∷ record { got = told (loadMatch (eight 4) (pair 0 nop)); wanted = 1 ∷ 0 ∷ 0 ∷ 0 ∷ 0 ∷ 0 ∷ [] }
+    ∷ record { got = told (load_match (eight 4) (pair 9 nop)); wanted = 1 ∷ 0 ∷ 0 ∷ 0 ∷ 0 ∷ 0 ∷ [] }
+    ∷ record { got = told (load_match (eight 4) (pair 0 nop)); wanted = 1 ∷ 0 ∷ 0 ∷ 0 ∷ 0 ∷ 0 ∷ [] }
     -- 13 before 1, and 9 before 13
-    ∷ record { got = told (loadMatch (eight 4) (pair 9 nop ++ (0 ∷ []))); wanted = 13 ∷ 114 ∷ 0 ∷ 0 ∷ 0 ∷ 0 ∷ [] }
-    ∷ record { got = told (loadMatch unsound []); wanted = 9 ∷ 0 ∷ 0 ∷ 0 ∷ 0 ∷ 0 ∷ [] }
+    ∷ record { got = told (load_match (eight 4) (pair 9 nop ++ (0 ∷ []))); wanted = 13 ∷ 114 ∷ 0 ∷ 0 ∷ 0 ∷ 0 ∷ [] }
+    ∷ record { got = told (load_match unsound []); wanted = 9 ∷ 0 ∷ 0 ∷ 0 ∷ 0 ∷ 0 ∷ [] }
     ∷ []

@@ -7,18 +7,18 @@ use Rattle.machine.specs.declared.Ring.{Ring}
 use Rattle.machine.specs.State.{Machine}
 use Rattle.machine.specs.Queue.{pop}
 use Rattle.machine.specs.Execution.{dat, divisor, Next, ends, goes, splits}
-use Rattle.machine.specs.Step.{popped, pc, queued, nextTold}
-use Rattle.lent.specs.Parts.{queueOf}
+use Rattle.machine.specs.Step.{popped, pc, queued, next_told}
+use Rattle.lent.specs.Parts.{queue_of}
 use Rattle.steps.specs.declared.opcode.Executed.{Executed}
 use Rattle.steps.specs.declared.opcode.Executed.TheVariants.{Goes, Splits, Dat, DivideByZero}
 use Rattle.steps.specs.declared.ring.Stepped.{Stepped}
 
-abbrev pub ringOf : ℕ → ℕ → Ring
-ringOf head length = record { head = head; length = length }
+abbrev pub ring_of : ℕ → ℕ → Ring
+ring_of head length = record { head = head; length = length }
 
 -- the slot that the next entry goes to
-abbrev pub tailOf : Machine → ℕ
-tailOf m = ahead (length m.queue) m.header.ring.head m.header.ring.length
+abbrev pub tail_of : Machine → ℕ
+tail_of m = ahead (length m.queue) m.header.ring.head m.header.ring.length
 
 -- the front entry's upper bits are zero, its name is counted and has a thread number left, and the next entry goes to the tail
 pub record Front (m : Machine) (tail : ℕ) : Type 0 where
@@ -26,7 +26,7 @@ pub record Front (m : Machine) (tail : ℕ) : Type 0 where
   pub head : m.header.ring.head < length m.queue
   pub some : 0 < m.header.ring.length
   pub limit : m.header.ring.length ≤ length m.queue
-  pub behind : tail ≡ tailOf m
+  pub behind : tail ≡ tail_of m
   pub upper : get_or m.queue m.header.ring.head 0 / 2 ^ 52 ≡ 0
   pub sixteen : length m.header.counts ≡ 16
   pub count : 0 < get_or m.header.counts (popped m).name 0
@@ -55,7 +55,7 @@ Near (DivideByZero w) = Unit {0}
 
 -- the front entry popped, and the next places pushed
 pub record Requeued (m : Machine) (x : Executed) (r : Stepped) (queue counts threads : List ℕ) : Type 0 where
-  pub machine : queueOf queue (ringOf r.head r.length) counts threads ≡ (queued (next_of x) (popped m) (pop m)).machine
-  pub answer : told r.answer ≡ nextTold (next_of x) (get_or (pop m).header.counts (popped m).name 0) (pc m)
+  pub machine : queue_of queue (ring_of r.head r.length) counts threads ≡ (queued (next_of x) (popped m) (pop m)).machine
+  pub answer : told r.answer ≡ next_told (next_of x) (get_or (pop m).header.counts (popped m).name 0) (pc m)
   pub writes : r.writes ≡ writes_of x
   pub tail : r.tail ≡ ahead (length queue) r.head r.length

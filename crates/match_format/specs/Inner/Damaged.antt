@@ -6,7 +6,7 @@ use Rattle.encoding.specs.Bytes.{spelled}
 use Rattle.match_format.specs.declared.Fault.{Fault}
 use Rattle.match_format.specs.declared.Fault.TheVariants.{Nowhere, At}
 use Rattle.match_format.specs.Format.{Warrior, warrior, line, file}
-use Rattle.match_format.specs.Faults.{lineFault, linesFault, fault, faultAt}
+use Rattle.match_format.specs.Faults.{line_fault, lines_fault, fault, fault_at}
 
 pub record Row : Type 0 where
   pub got : Fault
@@ -35,7 +35,7 @@ unfolding line file
 sound = file 8000 (imp ∷ unnamed ∷ [])
 
 unfoldable pub damaged : List Row
-unfolding sound lineFault linesFault fault
+unfolding sound line_fault lines_fault fault
 damaged =
     row sound Nowhere
     -- warriors n, 1–16
@@ -82,7 +82,7 @@ damaged =
     ∷ row (set (set sound 20 1) 3 1) (At 3)
     ∷ row (set (take 125 sound) 20 1) (At 20)
     -- a warrior number not below n, tested last
-    ∷ record { got = faultAt sound 1; wanted = Nowhere }
-    ∷ record { got = faultAt sound 2; wanted = At 0 }
-    ∷ record { got = faultAt (set sound 20 1) 2; wanted = At 20 }
+    ∷ record { got = fault_at sound 1; wanted = Nowhere }
+    ∷ record { got = fault_at sound 2; wanted = At 0 }
+    ∷ record { got = fault_at (set sound 20 1) 2; wanted = At 20 }
     ∷ []

@@ -2,7 +2,7 @@
 -- Inner. Assumes nothing.
 use Rattle.std.specs.Prelude.{ℕ, ◌≤◌, ◌<◌, ◌≡◌, Bool, true, List, [], ◌∷◌, length, get_or}
 use Rattle.laws.specs.Lists.{among, every}
-use Rattle.cell.specs.Cells.{soundWord}
+use Rattle.cell.specs.Cells.{sound_word}
 use Rattle.types.specs.Opcode.{LDP, STP}
 use Rattle.machine.specs.declared.Rules.{Rules}
 use Rattle.machine.specs.Pointers.{Operand}
@@ -21,11 +21,11 @@ pub record Fetched (rules : Rules) (core : List ℕ) (pc here : ℕ) : Type 0 wh
   pub cells : length core ≡ rules.size
   pub place : pc < rules.size
   pub is : here ≡ get_or core pc 0
-  pub sound : soundWord rules.size here ≡ true
+  pub sound : sound_word rules.size here ≡ true
 
 -- the cells that an operand read
-abbrev pub soundSeen : ℕ → Operand → Bool
-soundSeen size o = every (soundWord size) o.seen
+abbrev pub sound_seen : ℕ → Operand → Bool
+sound_seen size o = every (sound_word size) o.seen
 
 -- the executed cell reaches for private memory
 abbrev pub private : List ℕ → ℕ → Bool

@@ -6,15 +6,15 @@ use Rattle.machine.specs.Names.{name_at}
 use Rattle.lent.specs.Parts.{names_of}
 
 -- the length, and the first byte, the last but one and the last; 0 where there is none
-abbrev pub keyOf : List ℕ → ℕ
-keyOf name =
+abbrev pub key_of : List ℕ → ℕ
+key_of name =
     length name % 256 + get_or name 0 0 * 256 + cond (ltb (length name) 2) 0 (get_or name (length name - 2) 0) * 65536
     + get_or name (length name - 1) 0 * 16777216
 
 -- the key of each name held
 abbrev pub Keyed : List ℕ → List ℕ → List ℕ → ℕ → Type 0
-Keyed names lengths keys held = (k : ℕ) → k < held → get_or keys k 0 ≡ keyOf (name_at (names_of 0 names lengths) k)
+Keyed names lengths keys held = (k : ℕ) → k < held → get_or keys k 0 ≡ key_of (name_at (names_of 0 names lengths) k)
 
 -- how many of the sixteen keys are this one
-unfoldable pub timesIn : List ℕ → ℕ → ℕ
-timesIn keys key = tally (λ (k : ℕ). eqb k key) (table (λ (k : ℕ). get_or keys k 0) 0 16)
+unfoldable pub times_in : List ℕ → ℕ → ℕ
+times_in keys key = tally (λ (k : ℕ). eqb k key) (table (λ (k : ℕ). get_or keys k 0) 0 16)

@@ -1,20 +1,20 @@
 -- Files, and what is printed for them: 01's example, and a refusal of each kind. The theorem is in proofs/Games.antt.
 -- Inner. Assumes nothing.
 use Rattle.std.specs.Prelude.{ℕ, List, [], ◌∷◌, replicate}
-use Rattle.cell.specs.Cells.{soundWord}
-use Rattle.program.specs.Program.{lawful, lowestFault, cells}
+use Rattle.cell.specs.Cells.{sound_word}
+use Rattle.program.specs.Program.{lawful, lowest_fault, cells}
 use Rattle.machine.specs.Queue.{pop, push, started}
 use Rattle.machine.specs.Names.{register, numbered}
-use Rattle.machine.specs.Soundness.{soundHeader, soundEntry}
+use Rattle.machine.specs.Soundness.{sound_header, sound_entry}
 use Rattle.machine.specs.Pointers.{operand}
 use Rattle.machine.specs.Execution.{effect_of}
-use Rattle.machine.specs.Step.{effect, coreAfter, stepWritten, counted, executed, step}
+use Rattle.machine.specs.Step.{effect, core_after, step_written, counted, executed, step}
 use Rattle.machine.specs.Run.{run}
 use Rattle.machine.specs.Fresh.{fresh}
 use Rattle.machine.specs.Load.{loaded, load}
 use Rattle.match_format.specs.Format.{warrior, line, file}
-use Rattle.match_format.specs.Faults.{lineFault, linesFault, fault}
-use Rattle.match_load.specs.Loading.{loadMatch}
+use Rattle.match_format.specs.Faults.{line_fault, lines_fault, fault}
+use Rattle.match_load.specs.Loading.{load_match}
 use Rattle.battle.specs.Match.{result}
 use Rattle.printing.specs.Text.{decimal, line_of}
 use Rattle.battle.specs.Text.{printed}
@@ -28,7 +28,7 @@ abbrev alone : ℕ → ℕ → ℕ → List ℕ
 alone size opcode place = file size (warrior [] (opcode ∷ 4 ∷ 1 ∷ 1 ∷ replicate 8 0) 0 place ∷ [])
 
 unfoldable pub games : List Row
-unfolding soundWord lawful lowestFault cells register numbered pop push started soundHeader soundEntry fresh loaded load operand effect_of effect coreAfter stepWritten counted executed step run line file lineFault linesFault fault loadMatch result decimal line_of printed
+unfolding sound_word lawful lowest_fault cells register numbered pop push started sound_header sound_entry fresh loaded load operand effect_of effect core_after step_written counted executed step run line file line_fault lines_fault fault load_match result decimal line_of printed
 games =
     -- M 8 and one unnamed DAT.F $0,$0: `11 1 0`, then `Warrior0 0`
     record {

@@ -17,25 +17,25 @@ pub record Placed (rules : Rules) (core : List ℕ) (pc : ℕ) : Type 0 where
   pub write : 0 < rules.write
 
 -- a word after the decrement, and after the increment
-abbrev pub wordBefore : Shift → ℕ → ℕ → Field → ℕ
-wordBefore keeps size w f = w
-wordBefore lowers size w f = packed (with_number f (less size (number f (unpacked w))) (unpacked w))
-wordBefore raises size w f = w
+abbrev pub word_before : Shift → ℕ → ℕ → Field → ℕ
+word_before keeps size w f = w
+word_before lowers size w f = packed (with_number f (less size (number f (unpacked w))) (unpacked w))
+word_before raises size w f = w
 
-abbrev pub wordAfter : Shift → ℕ → ℕ → Field → ℕ
-wordAfter keeps size w f = w
-wordAfter lowers size w f = w
-wordAfter raises size w f = packed (with_number f (more size (number f (unpacked w))) (unpacked w))
+abbrev pub word_after : Shift → ℕ → ℕ → Field → ℕ
+word_after keeps size w f = w
+word_after lowers size w f = w
+word_after raises size w f = packed (with_number f (more size (number f (unpacked w))) (unpacked w))
 
 -- the end of a chain, of the number folded and the word at its location
-abbrev pub pointerBy : Reach → ℕ → ℕ → ℕ → ℕ → ℕ → ℕ
-pointerBy here size limit pc folded w = pc
-pointerBy there size limit pc folded w = ahead size pc folded
-pointerBy (through f) size limit pc folded w = ahead size pc (fold limit size (folded + number f (unpacked w)))
+abbrev pub pointer_by : Reach → ℕ → ℕ → ℕ → ℕ → ℕ → ℕ
+pointer_by here size limit pc folded w = pc
+pointer_by there size limit pc folded w = ahead size pc folded
+pointer_by (through f) size limit pc folded w = ahead size pc (fold limit size (folded + number f (unpacked w)))
 
 -- the pointers, the write location, the words of the cells read, and the word left at the write location
-unfoldable pub chainsOf : Site → List ℕ → ℕ → ℕ → Chains
-chainsOf s core mode n =
+unfoldable pub chains_of : Site → List ℕ → ℕ → ℕ → Chains
+chains_of s core mode n =
     let o = operand s core mode n in
     let location = located s s.rules.write n in
     record {
