@@ -105,7 +105,7 @@ def wrong_heads(believed):
             if said(text) != [kind]:
                 print(f"{name}: its head must say '{kind}.'")
                 wrong += 1
-            if (file.parent.name == "inner") != (kind == "Inner"):
+            if (file.parent.name == "Inner") != (kind == "Inner"):
                 print(f"{name}: {kind.lower()}, so it stands in the wrong folder")
                 wrong += 1
     return wrong

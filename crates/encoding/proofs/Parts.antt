@@ -1,13 +1,11 @@
 -- Parts of bytes as the code cuts them, and the numbers in them.
 -- Assumes nothing.
-use mathlib.Core.Path.{◌≡◌, refl, sym, ap, ◌∙◌}
+use mathlib.Core.Path.{◌≡◌, ap}
 use mathlib.Core.List.{List, [], ◌∷◌}
 use Prim.Native.Nat.{ℕ, zero, suc, ◌+◌, ◌-◌, ◌≤◌}
 use native.Mathlib.Omega.{arith}
-use lib.ListN.{length, get_or, take, drop, length-drop, drop_of_length-le}
-use lib.Seq.{take_all, take-nil}
-use Rattle.laws.proofs.Lists.{to_end}
-use Rattle.encoding.specs.Bytes.{part, value}
+use lib.ListN.{length, take, drop}
+use Rattle.encoding.specs.Bytes.{part}
 
 module _ (bytes : List ℕ) (start k : ℕ) where
   pub cut : take (start + k - start) (drop start bytes) ≡ part bytes start k

@@ -2,14 +2,14 @@
 -- Assumes nothing.
 use Prim.Native.Nat.{ℕ, ◌*◌, ◌<◌}
 use mathlib.Core.Path.{◌≡◌, ap, ◌∙◌}
-use mathlib.Core.List.{List, []}
+use mathlib.Core.List.{List}
 use borrow.Author.Tests.{lt-ltb}
 use Rattle.encoding.specs.Bytes.{part}
 use Rattle.match_file.specs.declared.Line.{Line}
 use Rattle.match_format.specs.declared.Fault.{Fault}
-use Rattle.match_format.specs.declared.Fault.TheVariants.{Nowhere, At}
+use Rattle.match_format.specs.declared.Fault.TheVariants.{Nowhere}
 use Rattle.match_format.specs.Faults.{fault, fault_at}
-use Rattle.match_file.specs.Reading.{zeroed, emptied, warriors_in, line_in, count_of, warrior_of}
+use Rattle.match_file.specs.Reading.{zeroed, warriors_in, line_in, count_of, warrior_of}
 
 module _ (f : List ℕ) (k : ℕ) {l : Line} (e : l ≡ line_in f k) where
   pub name-told : {xs : List ℕ} → xs ≡ part f l.name_start l.name_length → xs ≡ (warrior_of f k).name

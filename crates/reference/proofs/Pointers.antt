@@ -6,7 +6,7 @@ use mathlib.Core.List.{List, map}
 use native.Mathlib.Nat.{mod-lt, mod-eq_of_lt, add-zero}
 use native.Mathlib.Omega.{arith}
 use lib.IntN.{pos}
-use lib.ListN.{length, get_or, set}
+use lib.ListN.{get_or, set}
 use lib.Seq.{set-get_or}
 use Rattle.laws.proofs.Numbers.{below}
 use Rattle.laws.proofs.Every.{◌and◌}

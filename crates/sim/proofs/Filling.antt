@@ -2,13 +2,13 @@
 -- Assumes nothing.
 use mathlib.Core.Path.{◌≡◌, sym, ap, ◌∙◌}
 use mathlib.Core.List.{List, ◌++◌, append-nil}
-use Prim.Native.Nat.{ℕ, ◌+◌, ◌-◌, ◌≤◌, ◌<◌}
+use Prim.Native.Nat.{ℕ, ◌+◌, ◌-◌, ◌<◌}
 use native.Mathlib.Nat.{sub-zero}
 use native.Mathlib.Numerals.{add-one}
 use native.Mathlib.Omega.{arith}
 use lib.ListN.{length, set, replicate, length-replicate, drop_of_length-le}
 use lib.Seq.{sets, sets-eq}
-use Rattle.laws.proofs.Lists.{fall, done}
+use Rattle.laws.proofs.Lists.{fall}
 
 -- a store of as many words as there are is those words
 whole : (l vs : List ℕ) → length vs ≡ length l → vs ≡ sets l 0 vs

@@ -15,7 +15,7 @@ use Rattle.cell.proofs.Soundness.{sound-fields}
 use Rattle.word.proofs.Cells.{ahead-below, number-below}
 use Rattle.machine.specs.declared.Rules.{Rules}
 use Rattle.machine.specs.Pointers as machine
-use Rattle.machine.specs.Pointers.{Shift, shifts, keeps, lowers, raises, less, more, shifted, site_at}
+use Rattle.machine.specs.Pointers.{Shift, shifts, keeps, lowers, raises, less, more, site_at}
 use Rattle.machine.specs.Whole.{former}
 use Rattle.address.specs.Rounding.{incremented, field_through, aimed}
 use Rattle.address.specs.Inner.Operands.{sound_seen, Ready}
