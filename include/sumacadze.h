@@ -1,7 +1,7 @@
-/* The machine of docs/MACHINE.md for C and C++ on x86-64: what the static library of crates/sumacadze exports.
+/* The machine of docs/MACHINE.md for C and C++ on x86-64: what the static library, crate sumacadze_c, exports.
  *
  * `bin/library` proves it and writes target/staticlib/libsumacadze.a, the one file to link.
- * Each call's promise stands at its function in crates/sumacadze/src; `number` is always one of docs/MACHINE.md's table.
+ * Each call's promise stands at its function in crates/sumacadze_c/src; `number` is always one of docs/MACHINE.md's table.
  *
  * The caller owes what C does not check:
  * - no pointer is null, not even where its length is 0;

@@ -31,8 +31,7 @@ pub struct Line {
 }
 
 // Reads how many warriors a file has, and M.
-#[unsafe(no_mangle)]
-pub extern "C" fn sumacadze_read(file: &[u8]) -> Contents
+pub fn sumacadze_read(file: &[u8]) -> Contents
     ensures { (gives result.number result.position ≡ told_by (fault file.now))
         × (result.warriors ≡ zeroed (fault file.now) (warriors_in file.now))
         × (result.size ≡ zeroed (fault file.now) (size_in file.now)) }
@@ -48,8 +47,7 @@ pub extern "C" fn sumacadze_read(file: &[u8]) -> Contents
 }
 
 // Reads the line of a warrior.
-#[unsafe(no_mangle)]
-pub extern "C" fn sumacadze_read_line(file: &[u8], warrior: usize) -> Line
+pub fn sumacadze_read_line(file: &[u8], warrior: usize) -> Line
     ensures { (gives result.number result.position ≡ told_by (fault_at file.now warrior))
         × (result.name_start ≡ zeroed (fault_at file.now warrior) (name_start (line_at warrior)))
         × (result.name_length ≡ zeroed (fault_at file.now warrior) (name_length file.now (line_at warrior)))

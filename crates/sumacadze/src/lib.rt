@@ -1,4 +1,4 @@
-// The machine's calls for programs in C and Rust (include/sumacadze.h): a fresh machine, cell reading, and load, step and run over a header that the caller lends and that is changed in place.
+// The machine's calls for programs in C and Rust (include/sumacadze.h), whose symbols are in crate `sumacadze_c`: a fresh machine, cell reading, and load, step and run over a header that the caller lends and that is changed in place.
 #![tactic(auto)]
 
 ghost use Rattle.std.specs.Prelude.{◌≡◌};
@@ -51,8 +51,7 @@ pub struct Reading {
 }
 
 // A fresh machine: fresh cells, zeros in the queue memory, and its header.
-#[unsafe(no_mangle)]
-pub extern "C" fn sumacadze_fresh(rules: Rules, core: &mut [u64], queue: &mut [u64]) -> Fresh
+pub fn sumacadze_fresh(rules: Rules, core: &mut [u64], queue: &mut [u64]) -> Fresh
     ensures { (result.number ≡ (starting.fresh rules core.old queue.old).number)
         × (machine_of core.new queue.new result.header ≡ (starting.fresh rules core.old queue.old).machine) }
 {
@@ -66,8 +65,7 @@ pub extern "C" fn sumacadze_fresh(rules: Rules, core: &mut [u64], queue: &mut [u
 }
 
 // The cell at any number, reduced; all zero where it is refused.
-#[unsafe(no_mangle)]
-pub extern "C" fn sumacadze_get(core: &[u64], queue: &[u64], header: Header, number: i32) -> Reading
+pub fn sumacadze_get(core: &[u64], queue: &[u64], header: Header, number: i32) -> Reading
     ensures { (result.number ≡ (running.read (machine_of core.now queue.now header) number).number)
         × (cell_of result.opcode result.modifier result.a_mode result.b_mode result.a result.b ≡ unpacked (running.read (machine_of core.now queue.now header) number).value) }
 {
@@ -86,8 +84,7 @@ pub extern "C" fn sumacadze_get(core: &[u64], queue: &[u64], header: Header, num
 }
 
 // Loads a warrior; an empty name is Warrior0.
-#[unsafe(no_mangle)]
-pub extern "C" fn sumacadze_load(
+pub fn sumacadze_load(
     core: &mut [u64],
     queue: &mut [u64],
     header: &mut Header,
@@ -105,8 +102,7 @@ pub extern "C" fn sumacadze_load(
 }
 
 // Executes one instruction of the process at the front.
-#[unsafe(no_mangle)]
-pub extern "C" fn sumacadze_step(core: &mut [u64], queue: &mut [u64], header: &mut Header) -> Report
+pub fn sumacadze_step(core: &mut [u64], queue: &mut [u64], header: &mut Header) -> Report
     ensures { given (gives result.number result.value) result.writes result.steps (machine_of core.new queue.new header.new)
         ≡ given_by (one.step (machine_of core.old queue.old header.old)) }
 {
@@ -121,8 +117,7 @@ pub extern "C" fn sumacadze_step(core: &mut [u64], queue: &mut [u64], header: &m
 }
 
 // Steps while steps taken are below the ceiling, if one is said (else below 10,000), up to the first answer not 0.
-#[unsafe(no_mangle)]
-pub extern "C" fn sumacadze_run(
+pub fn sumacadze_run(
     core: &mut [u64],
     queue: &mut [u64],
     header: &mut Header,

@@ -19,8 +19,7 @@ pub struct Loads {
 }
 
 // Loads every warrior of a match file, one by one in file order, up to the first refused; those before it stand.
-#[unsafe(no_mangle)]
-pub extern "C" fn sumacadze_load_match(
+pub fn sumacadze_load_match(
     core: &mut [u64],
     queue: &mut [u64],
     header: Header,
