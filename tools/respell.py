@@ -118,9 +118,10 @@ def main():
     root = pathlib.Path(sys.argv[1] if len(sys.argv) > 1 else ".").resolve()
     modules(root)
     for folder, names in APART.items():
-        for path in texts(root):
-            if path.is_relative_to(root / folder):
-                for old, new in names.items():
+        below = [path for path in texts(root) if path.is_relative_to(root / folder)]
+        for old, new in names.items():
+            if not any(whole(new).search(path.read_text()) for path in below):
+                for path in below:
                     rewrite(path, lambda text: whole(old).sub(new, text))
     words = {**humps(root), **dashes(root), **FORMER}
     every = re.compile(rf"{CAMEL.pattern}|{DASHED.pattern}")
