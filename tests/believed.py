@@ -20,9 +20,9 @@ PUBLIC = re.compile(r"^pub (?:extern \"C\" )?fn .*?^\{", re.M | re.S)
 
 def crates():
     for line in (ROOT / "crates.txt").read_text().splitlines():
-        name = line.split("#")[0].split(":")[0].strip()
-        if name:
-            yield name
+        words = line.split("#")[0].split(":")[0].split()
+        if words:
+            yield words[0]
 
 
 CRATES = list(crates())

@@ -69,7 +69,7 @@ def copy_crates(folder, name):
     kept = [l for l in lines if l.split(":")[0] in DEPENDENCIES] + [f"{name}: {' '.join(DEPENDENCIES)}"]
     (folder / "crates.txt").write_text("\n".join(kept) + "\n")
     for each in DEPENDENCIES:
-        unused = ("must-fail", "proofs") if each in DEFINITIONS else ("must-fail",)
+        unused = ("must-fail", "out", "proofs") if each in DEFINITIONS else ("must-fail", "out")
         shutil.copytree(root / "crates" / each, folder / "crates" / each, ignore=shutil.ignore_patterns(*unused))
     for each in DEFINITIONS:
         os.mkdir(folder / "crates" / each / "proofs")

@@ -98,7 +98,7 @@ pub record CodeKeeps : Type 2 where
   pub load_match : Keeps load_match.ended load_match_code.code load_match_code.name (λ κs a r e.
       MatchPromise a.1.1.1.0.now (machine_of a.0.now a.1.0.now a.1.1.0)
       (given (told r.outcome.answer) r.outcome.writes r.outcome.steps (machine_of e.0.now e.1.0.now r.outcome.header)) r.warrior)
-  -- exported: of load, step and run the header is lent, and changed in place
+  -- exported (crate sumacadze): of load, step and run the header is lent, and changed in place
   pub sumacadze_fresh : Keeps sumacadze_fresh.ended sumacadze_fresh_code.code sumacadze_fresh_code.name (λ κs a r e.
       FreshNumber a.0 a.1.0.now a.1.1.0.now r.number (machine_of e.1.0.now e.1.1.0.now r.header))
   pub sumacadze_get : Keeps sumacadze_get.ended sumacadze_get_code.code sumacadze_get_code.name (λ κs a r e. CellNumber (machine_of a.0.now a.1.0.now a.1.1.0) a.1.1.1.0

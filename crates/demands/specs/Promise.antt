@@ -1,5 +1,5 @@
 -- What each call promises, as a proposition in the words of its `ensures`: the call, the record before, what was given and the record after.
--- specs/Kept.antt says of the code that these are its contracts.
+-- specs/Kept.antt says of the code that these are its contracts. 'Exported' are the calls of crate sumacadze, in numbers: crate sumacadze_c gives each its symbol, under the same clauses.
 -- Believed. Assumes nothing.
 use Rattle.std.specs.Prelude.{ℕ, ◌*◌, ◌≡◌, List, ℤ}
 use Rattle.answer.specs.Numbers.{Told, gives}

@@ -4,7 +4,7 @@ use mathlib.Core.Path.{◌≡◌, sym, ap, ◌∙◌}
 use mathlib.Core.List.{List}
 use Prim.Native.Nat.{ℕ}
 use Rattle.answer.specs.declared.Answer.{Answer}
-use Rattle.answer.specs.Numbers.{told, gives}
+use Rattle.answer.specs.Numbers.{Told, told, gives}
 use Rattle.machine.specs.declared.Header.{Header}
 use Rattle.machine.specs.declared.Roster.{Roster}
 use Rattle.machine.specs.declared.Rules.{Rules}
@@ -18,17 +18,20 @@ use Rattle.sumacadze.proofs.Numbers.{in-numbers}
 abbrev pub changed : Header → Header → Header
 changed h k = record { rules = h.rules; ring = k.ring; steps = k.steps; names = h.names; counts = k.counts; threads = k.threads }
 
+-- which is all, where the rules and the names stay
+pub all-changed : (h : Header) (o : state.Outcome) {t : Told} {writes steps : ℕ} {core queue : List ℕ} {k : Header}
+    → given t writes steps (machine_of core queue k) ≡ given_by o
+    → (o.machine.header.rules ≡ h.rules) × (o.machine.header.names ≡ h.names) → changed h k ≡ k
+all-changed h o {k} e fixed =
+    ap (λ (x : Rules). record { rules = x; ring = k.ring; steps = k.steps; names = h.names; counts = k.counts; threads = k.threads })
+    (sym (ap (λ (g : Given). g.machine.header.rules) e ∙ fixed.0))
+    ∙ ap (λ (x : Roster). record { rules = k.rules; ring = k.ring; steps = k.steps; names = x; counts = k.counts; threads = k.threads })
+    (sym (ap (λ (g : Given). g.machine.header.names) e ∙ fixed.1))
+
 -- what a call by value gives back, told in numbers, with the header so changed
 pub changed-in_numbers : (h : Header) (o : state.Outcome) (answer : Answer) {writes steps : ℕ} {core queue : List ℕ} {k : Header} {r : Report}
     → r ≡ reported answer writes steps → given (told answer) writes steps (machine_of core queue k) ≡ given_by o
     → (o.machine.header.rules ≡ h.rules) × (o.machine.header.names ≡ h.names)
     → given (gives r.number r.value) r.writes r.steps (machine_of core queue (changed h k)) ≡ given_by o
 changed-in_numbers h o answer {writes} {steps} {core} {queue} {k} n e fixed =
-    in-numbers answer (machine_of core queue (changed h k)) n (ap (λ (x : Header). given (told answer) writes steps (machine_of core queue x)) all ∙ e)
-  where
-    all : changed h k ≡ k
-    all =
-        ap (λ (x : Rules). record { rules = x; ring = k.ring; steps = k.steps; names = h.names; counts = k.counts; threads = k.threads })
-        (sym (ap (λ (g : Given). g.machine.header.rules) e ∙ fixed.0))
-        ∙ ap (λ (x : Roster). record { rules = k.rules; ring = k.ring; steps = k.steps; names = x; counts = k.counts; threads = k.threads })
-        (sym (ap (λ (g : Given). g.machine.header.names) e ∙ fixed.1))
+    in-numbers answer (machine_of core queue (changed h k)) n (ap (λ (x : Header). given (told answer) writes steps (machine_of core queue x)) (all-changed h o e fixed) ∙ e)
