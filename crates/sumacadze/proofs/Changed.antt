@@ -19,10 +19,10 @@ abbrev pub changed : Header → Header → Header
 changed h k = record { rules = h.rules; ring = k.ring; steps = k.steps; names = h.names; counts = k.counts; threads = k.threads }
 
 -- which is all, where the rules and the names stay
-pub all-changed : (h : Header) (o : state.Outcome) {t : Told} {writes steps : ℕ} {core queue : List ℕ} {k : Header}
+pub all_changed : (h : Header) (o : state.Outcome) {t : Told} {writes steps : ℕ} {core queue : List ℕ} {k : Header}
     → given t writes steps (machine_of core queue k) ≡ given_by o
     → (o.machine.header.rules ≡ h.rules) × (o.machine.header.names ≡ h.names) → changed h k ≡ k
-all-changed h o {k} e fixed =
+all_changed h o {k} e fixed =
     ap (λ (x : Rules). record { rules = x; ring = k.ring; steps = k.steps; names = h.names; counts = k.counts; threads = k.threads })
     (sym (ap (λ (g : Given). g.machine.header.rules) e ∙ fixed.0))
     ∙ ap (λ (x : Roster). record { rules = k.rules; ring = k.ring; steps = k.steps; names = x; counts = k.counts; threads = k.threads })
@@ -34,4 +34,4 @@ pub changed-in_numbers : (h : Header) (o : state.Outcome) (answer : Answer) {wri
     → (o.machine.header.rules ≡ h.rules) × (o.machine.header.names ≡ h.names)
     → given (gives r.number r.value) r.writes r.steps (machine_of core queue (changed h k)) ≡ given_by o
 changed-in_numbers h o answer {writes} {steps} {core} {queue} {k} n e fixed =
-    in-numbers answer (machine_of core queue (changed h k)) n (ap (λ (x : Header). given (told answer) writes steps (machine_of core queue x)) (all-changed h o e fixed) ∙ e)
+    in-numbers answer (machine_of core queue (changed h k)) n (ap (λ (x : Header). given (told answer) writes steps (machine_of core queue x)) (all_changed h o e fixed) ∙ e)
