@@ -76,9 +76,6 @@ module _ {until : ℕ} {start m : Machine} {w tail : ℕ} (g : Round until start
         pub writes-few : w + sw ≤ (n.header.steps - start.header.steps) * 3
         writes-few = few-writes g.going 1 one-within played
 
-        pub since-start : start.header.steps ≤ n.header.steps
-        since-start = onward g.going 1 one-within played
-
         pub step-stops : eqb t.number 0 ≡ false → given t (w + sw) (n.header.steps - start.header.steps) n ≡ given_by (plays_of (until - start.header.steps) start)
         step-stops e = stopped g.going 1 one-within played e
 
