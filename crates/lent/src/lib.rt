@@ -1,7 +1,36 @@
-// The parts of a record that a call is lent, put together as 01's machine (definitions in specs/), and the lengths of a header's arrays.
+// The parts of a record that a call is lent, put together as 01's machine (definitions in specs/): a header taken apart and made of its parts.
 #![tactic(auto)]
 
 ghost use Rattle.std.specs.Prelude.{◌≡◌, length};
+ghost use Rattle.lent.specs.Parts.{processes_of, header_of};
+
+use machine::{Header, Processes, Roster, Rules};
+
+// What load and a step change of a header beside its names.
+pub fn processes_of(h: Header) -> Processes
+    ensures { result ≡ processes_of h }
+{
+    Processes {
+        ring: h.ring,
+        steps: h.steps,
+        counts: h.counts,
+        threads: h.threads,
+    }
+}
+
+// A header of its parts.
+pub fn header_of(rules: Rules, names: Roster, processes: Processes) -> Header
+    ensures { result ≡ header_of rules names processes }
+{
+    Header {
+        rules,
+        ring: processes.ring,
+        steps: processes.steps,
+        names,
+        counts: processes.counts,
+        threads: processes.threads,
+    }
+}
 
 // The lengths of the header's arrays.
 pub fn sized<'a>(
