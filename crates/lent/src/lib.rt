@@ -10,11 +10,13 @@ use machine::{Header, Processes, Roster, Rules};
 pub fn processes_of(h: Header) -> Processes
     ensures { result ≡ processes_of h }
 {
+    let counts = h.counts;
+    let threads = h.threads;
     Processes {
         ring: h.ring,
         steps: h.steps,
-        counts: h.counts,
-        threads: h.threads,
+        counts,
+        threads,
     }
 }
 
@@ -22,13 +24,15 @@ pub fn processes_of(h: Header) -> Processes
 pub fn header_of(rules: Rules, names: Roster, processes: Processes) -> Header
     ensures { result ≡ header_of rules names processes }
 {
+    let counts = processes.counts;
+    let threads = processes.threads;
     Header {
         rules,
         ring: processes.ring,
         steps: processes.steps,
         names,
-        counts: processes.counts,
-        threads: processes.threads,
+        counts,
+        threads,
     }
 }
 

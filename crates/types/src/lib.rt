@@ -1,9 +1,8 @@
 // The codes of an instruction: opcodes, modifiers and modes by name, default modifiers (01, 'Cells') and field pairs (01, 'One step').
 #![tactic(auto)]
 
-ghost use Rattle.std.specs.Prelude.{◌≡◌, leb, IfOk};
-ghost use Rattle.answer.specs.Numbers.{told};
-ghost use Rattle.types.specs.Defaults.{ranged, default_modifier, default_of, given, told_of};
+ghost use Rattle.std.specs.Prelude.{◌≡◌, leb};
+ghost use Rattle.types.specs.Defaults.{ranged, default_modifier, default_of, given, defaulted};
 ghost use Rattle.types.specs.Modifier.{I};
 ghost use Rattle.types.specs.Types.{field_pairs};
 
@@ -70,8 +69,7 @@ pub fn has_default(opcode: u8, a_mode: u8, b_mode: u8) -> bool
 
 // The default modifier of an instruction that names none.
 pub fn default_88_to_94(opcode: u8, a_mode: u8, b_mode: u8) -> Result<u8, Error>
-    ensures answer { told result ≡ told_of (default_of opcode a_mode b_mode) }
-    ensures modifier { IfOk result (λ m. m ≡ default_of opcode a_mode b_mode) }
+    ensures { result ≡ defaulted (default_of opcode a_mode b_mode) }
 {
     default_of(opcode, a_mode, b_mode).ok_or(Error::InvalidCode(0))
 }
