@@ -11,6 +11,6 @@ pub returns : goal.returns
 returns c =
     let right : ℕ → Bool = within c.args.lo c.args.hi in
     let m : c.map.result ≡ option_map (λ k. c.args.at + k) c.position.result = search rules in
-    let y = YieldsList-from_slice c.part.result.now cc in
-    m ∙ found right c.args.at _ _ (position_from_yields_List (λ b. not (right b)) _ _ c.position.result c.position.ensures.ran y (λ x b q k. search (rules, tests)))
+    m ∙ found right c.args.at _ _
+      (position_from_yields_List (λ b. not (right b)) _ _ c.position.result c.position.ensures.ran (YieldsList-from_slice c.part.result.now cc) (λ x b q k. search (rules, tests)))
     ∙ ap (faulty right c.args.at) c.part.ensures
