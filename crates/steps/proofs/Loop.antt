@@ -7,9 +7,7 @@ use native.Mathlib.Nat.{add-zero, zero-add, add_assoc}
 use native.Mathlib.Omega.{arith}
 use lib.Dec.{eqb}
 use borrow.Author.Tests.{eqb-true, eqb-false}
-use Rattle.answer.specs.declared.Answer.{Answer}
-use Rattle.answer.specs.declared.Answer.TheVariants.{Done}
-use Rattle.answer.specs.Numbers.{Told, told}
+use Rattle.answer.specs.Numbers.{Answer, gives, Told, told}
 use Rattle.laws.specs.Lists.{one_if}
 use Rattle.machine.specs.declared.Ring.{Ring}
 use Rattle.machine.specs.State.{Machine, Outcome, told_by, joined, and_then}
@@ -160,10 +158,10 @@ module _ {ceiling : ℕ} {start m : Machine} {w : ℕ} (g : Going ceiling start 
   abbrev steps : ℕ
   steps = m.header.steps - start.header.steps
 
-  pub over : ceiling ≤ m.header.steps → given (told Done) w steps m ≡ given_by (plays_of (ceiling - start.header.steps) start)
+  pub over : ceiling ≤ m.header.steps → given (gives 0 0) w steps m ≡ given_by (plays_of (ceiling - start.header.steps) start)
   unfolding plays_of
   over h =
-      ap₂ (λ (i j : ℕ). given (told Done) i j m) (sym (add-zero w)) (sym (add-zero steps))
+      ap₂ (λ (i j : ℕ). given (gives 0 0) i j m) (sym (add-zero w)) (sym (add-zero steps))
       ∙ ap (λ (k : ℕ). after w steps (plays_of k m)) (none h)
       ∙ g.same
     where
