@@ -5,7 +5,7 @@ use mathlib.Core.Path.{◌≡◌, ap}
 use Prim.Native.Nat.{ℕ}
 use mathlib.Core.Bool.{true, false}
 use lib.ListN.{length}
-use Rattle.answer.specs.Numbers.{gives, told}
+use Rattle.answer.specs.Numbers.{gives}
 use Rattle.machine.specs.State.{Machine}
 use Rattle.machine.specs.Soundness.{sound_header}
 use Rattle.machine.specs.Run.{Ceiling, ceiling_of, run}

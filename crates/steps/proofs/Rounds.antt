@@ -8,7 +8,7 @@ use native.Mathlib.Omega.{arith}
 use lib.Dec.{eqb}
 use borrow.Author.Tests.{eqb-true}
 use lib.ListN.{length, get_or}
-use Rattle.answer.specs.Numbers.{gives, Told, told}
+use Rattle.answer.specs.Numbers.{gives, Told}
 use Rattle.cell.specs.Cells.{unpacked}
 use Rattle.cell.proofs.Soundness.{sound-fields}
 use Rattle.machine.specs.State.{Machine}

@@ -32,6 +32,13 @@ fn is_done(answer: Answer) -> bool
     }
 }
 
+// The steps taken: what the checker is told of a number of 32 bits it is not told of a field behind a reference.
+fn steps_taken(processes: &Processes) -> u32
+    ensures { (result ≡ processes.now.steps) × (result ≤ 4294967295) }
+{
+    processes.steps
+}
+
 // What a run gives, from the steps taken before and after it.
 fn ran(answer: Answer, writes: u64, before: u32, taken: u32) -> Ran
     requires { before ≤ taken }
@@ -83,12 +90,19 @@ fn play(
     let mut head = processes.ring.head;
     let mut length = processes.ring.length;
     let mut tail = ahead(head, length, queue.len() as u32);
-    let mut done = processes.steps;
+    let mut done = steps_taken(processes);
     let mut writes: u64 = 0;
     while (done as u64) < until {
         let f = fetch(core, queue, head);
         if opcode(f.cell) > NOP {
-            return left(processes, Err(Error::PrivateMemory), writes, head, length, done);
+            return left(
+                processes,
+                Err(Error::PrivateMemory),
+                writes,
+                head,
+                length,
+                done,
+            );
         }
         let s = step_once(
             core,
@@ -210,16 +224,18 @@ pub(crate) fn run_loop(
     let pairs = field_pairs();
     let trusted = trusts(core, queue, processes, rules, held, ceiling);
     let before = processes.steps;
+    let mut done = before;
     let mut writes: u64 = 0;
-    while (processes.steps as u64) < ceiling {
+    while (done as u64) < ceiling {
         let s = ask(
             core, &pairs, queue, processes, rules, held, ceiling, trusted, whole,
         );
+        done = steps_taken(processes);
         writes += s.writes;
         let answer = s.answer;
         if !is_done(answer) {
-            return ran(answer, writes, before, processes.steps);
+            return ran(answer, writes, before, done);
         }
     }
-    ran(Ok(()), writes, before, processes.steps)
+    ran(Ok(()), writes, before, done)
 }

@@ -1,6 +1,6 @@
 -- What the run loop asks of the parts that it is lent, which have no names, and what it promises of them.
 -- Inner. Assumes nothing.
-use Rattle.answer.specs.Numbers.{Answer, gives}
+use Rattle.answer.specs.Numbers.{Answer}
 use Rattle.std.specs.Prelude.{ℕ, zero, suc, ◌+◌, ◌-◌, ◌≤◌, ◌<◌, ◌≡◌, true, ◌⊎◌, length, take}
 use Rattle.laws.specs.Lists.{total}
 use Rattle.machine.specs.State.{Machine, Outcome, done, and_then, refusal, first, passes, settle}
