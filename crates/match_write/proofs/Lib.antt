@@ -1,5 +1,2 @@
-pub mod Stores
-pub mod Lines
-pub mod Checks
-pub mod Added
 pub mod Examples
+pub mod Lines
