@@ -8,5 +8,5 @@ use Rattle.sumacadze.proofs.sumacadze_get.Goals as goal
 pub returns-in-Err : goal.returns-in-Err
 returns-in-Err c =
     let a = c.args in
-    let told_is = rw (to_z-of_z {w = w32} c.ranges.number) at c.in-Err.ensures.answer in
+    let told_is = rw (to_z-of_z {w = w32} c.ranges.number) at c.in-Err.ensures.0 in
     refused-cell (machine_of a.core.now a.queue.now a.header) a.number c.in-Err.error c.number.ensures told_is
