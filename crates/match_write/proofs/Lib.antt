@@ -1,2 +1,5 @@
-pub mod Examples
+pub mod Stores
 pub mod Lines
+pub mod Checks
+pub mod Added
+pub mod Examples

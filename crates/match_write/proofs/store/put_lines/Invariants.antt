@@ -1,7 +1,7 @@
 -- What a loop of `match_write::store::put_lines` keeps.
-use Rattle.std.proofs.Common.{◌≡◌, ◌+◌, ◌-◌, ◌*◌, length, List}
+use Rattle.std.proofs.Common.{◌≡◌, ◌+◌, ◌*◌, length}
 use Rattle.std.proofs.lemmas.List.Edits.{sets}
-use Rattle.match_format.specs.Format.{lines, bodies, Warrior}
+use Rattle.match_format.specs.Format.{lines, bodies}
 use Rattle.match_format.proofs.Format.{Short}
 use Rattle.match_write.proofs.Lines.{left}
 use Rattle.match_write.proofs.store.put_lines.Given as goal
