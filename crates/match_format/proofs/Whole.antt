@@ -6,13 +6,13 @@ use mathlib.Core.List.{List}
 use Prim.Native.Nat.{ℕ, zero, suc, ◌+◌, ◌*◌, ◌≤◌, ◌<◌}
 use native.Mathlib.Nat.{le_antisymm}
 use native.Mathlib.Omega.{arith}
-use lib.Dec.{leb, ltb, eqb}
+use lib.Dec.{leb, eqb}
 use lib.ListN.{length, get_or}
-use borrow.Author.Tests.{leb-true, ltb-true, eqb-true}
+use borrow.Author.Tests.{leb-true, eqb-true}
 use Rattle.laws.proofs.Tests.{both}
 use Rattle.std.specs.Prelude.{Option, None}
 use Rattle.match_format.specs.Format.{number}
-use Rattle.match_format.specs.Faults.{unless, ◌else◌, field, line_fault, lines_fault, end_fault, fault, fault_at}
+use Rattle.match_format.specs.Faults.{unless, ◌else◌, field, line_fault, lines_fault, end_fault, fault}
 use Rattle.match_format.proofs.Chains.{else-left, else-right, unless-true, field_fits, field-right}
 use Rattle.match_format.proofs.Lines.{LineOk, line_ok, lines_none, lines_more}
 
@@ -76,15 +76,3 @@ module _ (f : List ℕ) where
       let z : p + 43 * suc k ≡ p + 43 + 43 * k = omega arith in
       rw z (line_at (p + 43) (s + 12 * number f (p + 37) 2) n k (later-lines p s n e) (omega arith))
   line_at p s zero k e h = absurd (let x : ⊥ = omega arith in x)
-
-  -- a warrior number that reads
-  pub record WarriorOk (k : ℕ) : Type 0 where
-    pub head : HeadOk f
-    pub below : k < get_or f 0 0
-    pub its : LineAt (4 + 43 * k)
-
-  pub warrior-ok : (k : ℕ) → fault_at f k ≡ None → WarriorOk k
-  warrior-ok k e =
-      let h = head_ok f (else-left (fault f) (unless (ltb k (get_or f 0 0)) 0) e) in
-      let b = ltb-true k (get_or f 0 0) (unless-true (ltb k (get_or f 0 0)) 0 (else-right (fault f) (unless (ltb k (get_or f 0 0)) 0) e)) in
-      record { head = h; below = b; its = line_at 4 (4 + 43 * get_or f 0 0) (get_or f 0 0) k h.lines b }
