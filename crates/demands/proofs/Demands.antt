@@ -1,11 +1,11 @@
 -- The three demands are met.
 -- Assumes nothing.
 use Prim.Native.Nat.{ℕ}
-use mathlib.Core.Path.{◌≡◌, sym, ap, subst}
+use mathlib.Core.Path.{◌≡◌, sym, ap, subst, ◌∙◌}
 use mathlib.Core.Bool.{true, false}
 use mathlib.Core.List.{List, []}
 use mathlib.Core.Option.{some}
-use Rattle.answer.specs.Numbers.{Told, gives}
+use Rattle.answer.specs.Numbers.{Told, gives, told}
 use Rattle.machine.specs.declared.Rules.{Rules}
 use Rattle.machine.specs.State.{Machine}
 use Rattle.machine.specs.Fresh.{fresh}
@@ -28,6 +28,9 @@ use Rattle.reference.specs.Core.{Core, new}
 use Rattle.reference.specs.Refinement.{Domain, Agrees}
 use Rattle.reference.proofs.Refinement.{refinement}
 use Rattle.round_trip.proofs.RoundTrip.{first_reads, added_reads, writes_back}
+use Rattle.match_format.specs.Faults.{fault, fault_at}
+use Rattle.match_file.specs.Reading.{contents_in, line_in}
+use Rattle.match_file.proofs.Values.{read-told}
 use Rattle.demands.specs.Promise.{Promise}
 use Rattle.demands.specs.Made.{JustMade, Reply, Made, calls, last, MadeAgrees}
 use Rattle.demands.specs.Demands.{Demand1, Demand2, Demand3, Facts}

@@ -6,12 +6,16 @@ use mathlib.Core.Bool.{Bool, true, false, cond, not, true≢false}
 use mathlib.Core.List.{List, [], ◌∷◌}
 use lib.Dec.{eqb}
 use lib.IntN.{ℤ}
-use Rattle.answer.specs.Numbers.{Told, gives}
+use Rattle.std.specs.Prelude.{Result, Ok, Err}
+use borrow.Author.Tests.{eq-eqb}
+use Rattle.answer.specs.declared.Error.{Error}
+use Rattle.answer.specs.declared.Error.TheVariants.{InvalidCode}
+use Rattle.answer.specs.Numbers.{Told, gives, told}
 use Rattle.laws.specs.Lists.{among}
 use Rattle.laws.proofs.Every.{◌and◌}
 use Rattle.cell.specs.declared.Cell.{Cell}
 use Rattle.cell.specs.Cells.{sound_word, unpacked}
-use Rattle.types.specs.Defaults.{told_of}
+use Rattle.types.specs.Defaults.{default_of}
 use Rattle.metadata.specs.Metadata.{called}
 use Rattle.machine.specs.declared.Rules.{Rules}
 use Rattle.machine.specs.State.{Machine, Outcome, done, Check, check, Verdict, accepted, refusal, first, passes, settle}
@@ -25,8 +29,8 @@ use Rattle.machine.proofs.Load.{is-loaded}
 use Rattle.machine.proofs.Step.{is-executed}
 use Rattle.lent.specs.Given.{Given, given_by}
 use Rattle.account.specs.Calls.{Load, Step}
-use Rattle.demands.specs.Promise.{Promise, FreshPromise, FreshNumber, CellNumber, DefaultPromise}
-use Rattle.demands.specs.Refusals.{Refused, FreshRefused, CellRefused, DefaultRefused}
+use Rattle.demands.specs.Promise.{Promise, FreshPromise, FreshNumber, DefaultPromise}
+use Rattle.demands.specs.Refusals.{Refused, FreshRefused, CellRefused, CellZero, DefaultRefused}
 
 abbrev value_in : Verdict → ℕ
 value_in accepted = 0
@@ -93,7 +97,7 @@ no_value false true n v e = sym (ap value_in e)
 no_value false false n v e = absurd (true≢false (ap is_accepted e))
 
 module _ (m : Machine) (z : ℤ) where
-  word : Outcome
+  abbrev word : Outcome
   word = record { machine = m; number = 0; value = word_at m z; writes = 0; steps = 0; pushes = 0 }
 
   pub cell-refuses : (number : ℕ) → number ≡ (read m z).number → CellRefused m z number
@@ -114,6 +118,6 @@ module _ (m : Machine) (z : ℤ) where
 pub default-refuses : (opcode a b : ℕ) (r : Result ℕ Error) → DefaultPromise opcode a b r → DefaultRefused opcode a b (told r)
 default-refuses opcode a b r e =
     record {
-      by = λ q. ap told e ∙ ap (λ (t : Bool). told (cond {A = Result ℕ Error} t (Err (InvalidCode 0)) (Ok (default_of opcode a b)))) (eq-eqb _ _ q);
+      by = λ q. ap told e ∙ ap (λ (t : Bool). told (cond {A = Result ℕ Error} t (Err (InvalidCode 0)) (Ok (default_of opcode a b)))) (eq-eqb (default_of opcode a b) 255 q);
       accepted = λ q. ap told e ∙ ap (λ (t : Bool). told (cond {A = Result ℕ Error} t (Err (InvalidCode 0)) (Ok (default_of opcode a b)))) q;
     }
