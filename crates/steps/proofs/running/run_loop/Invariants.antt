@@ -6,11 +6,11 @@ use Rattle.steps.proofs.Loop.{Going}
 use Rattle.steps.proofs.Rounds.{Trusting}
 use Rattle.steps.proofs.running.run_loop.Given as goal
 
-abbrev pub invariant-loop-done : goal.invariant-loop-done
-invariant-loop-done l =
+abbrev pub invariant-loop-processes : goal.invariant-loop-processes
+invariant-loop-processes l =
     let i = l.initial in
     Going l.ceiling (unnamed i.core i.queue i.rules (ring_of i.head i.length) l.taken l.held i.counts i.threads) (unnamed l.core l.queue l.rules (ring_of l.head l.length) l.done l.held l.counts l.threads) l.writes
     × Trusting l.ceiling (unnamed l.core l.queue l.rules (ring_of l.head l.length) l.done l.held l.counts l.threads) l.trusted × (l.done ≤ 4294967295)
 
-abbrev pub decreases-loop-done : goal.decreases-loop-done
-decreases-loop-done l = l.ceiling - l.done
+abbrev pub decreases-loop-processes : goal.decreases-loop-processes
+decreases-loop-processes l = l.ceiling - l.done
