@@ -70,7 +70,7 @@ fn entries_tallied(queue: &[u64], rules: Rules, held: u32, processes: &Processes
         slot = ahead(slot, 1, slots);
     }
     let n = held as usize;
-    tallies[..n] == processes.counts[..n]
+    processes.counts[..n] == tallies[..n]
 }
 
 // Whether every cell and every queued entry is sound, each held name's count is the number of its entries, and no counter comes to its end within so many steps.
@@ -85,10 +85,18 @@ pub fn scan(
     ensures { result ≡ scanned steps (unnamed core.now queue.now rules held processes.now) }
 {
     let slots = queue.len();
-    let fits =
-        (slots <= MOST_ENTRIES) & ((processes.ring.head as usize) < slots) & (held <= 16);
-    fits && lasts(processes.steps, steps)
-        && all_last(&processes.threads, steps)
-        && entries_tallied(queue, rules, held, processes)
-        && cells_sound(core, rules.size)
+    let fits = (slots <= MOST_ENTRIES) & ((processes.ring.head as usize) < slots) & (held <= 16);
+    if !fits {
+        return false;
+    }
+    if !lasts(processes.steps, steps) {
+        return false;
+    }
+    if !all_last(&processes.threads, steps) {
+        return false;
+    }
+    if !entries_tallied(queue, rules, held, processes) {
+        return false;
+    }
+    cells_sound(core, rules.size)
 }
