@@ -9,7 +9,7 @@ ghost use Rattle.steps.specs.Inner.Instruction.{Executable, answered};
 use crate::modifier::modifier;
 use crate::opcode::{Executed, opcode};
 use crate::operand::{a_operand, b_operand, changes};
-use crate::reach::Reach;
+use crate::setting::Setting;
 use crate::scene::Scene;
 use chain::{Operands, evaluate};
 use machine::Rules;
@@ -32,26 +32,26 @@ fn whole_operands(core: &mut [u64], rules: Rules, pc: Absolute, here: u64) -> Op
 }
 
 // Both operands of the cell at PC.
-fn operands(core: &mut [u64], reach: Reach, pc: Absolute, here: u64) -> Operands
-    requires { Executable reach.rules core.old pc.0 here }
-    ensures { (result ≡ operands_at (site_at reach.rules pc.0) core.old) × (core.new ≡ (b_operand (site_at reach.rules pc.0) core.old).core) }
+fn operands(core: &mut [u64], setting: Setting, pc: Absolute, here: u64) -> Operands
+    requires { Executable setting.rules core.old pc.0 here }
+    ensures { (result ≡ operands_at (site_at setting.rules pc.0) core.old) × (core.new ≡ (b_operand (site_at setting.rules pc.0) core.old).core) }
 {
-    if reach.whole {
-        return whole_operands(core, reach.rules, pc, here);
+    if setting.whole {
+        return whole_operands(core, setting.rules, pc, here);
     }
-    evaluate(core, reach.rules, pc)
+    evaluate(core, setting.rules, pc)
 }
 
 // Executes the cell at PC.
-pub(crate) fn execute(core: &mut [u64], reach: Reach, pc: Absolute, here: u64) -> Executed
-    requires { Executable reach.rules core.old pc.0 here }
-    ensures { (result ≡ answered (effect_at (site_at reach.rules pc.0) core.old).next (length (written_at (site_at reach.rules pc.0) core.old)))
-        × (core.new ≡ core_at (site_at reach.rules pc.0) core.old) }
+pub(crate) fn execute(core: &mut [u64], setting: Setting, pc: Absolute, here: u64) -> Executed
+    requires { Executable setting.rules core.old pc.0 here }
+    ensures { (result ≡ answered (effect_at (site_at setting.rules pc.0) core.old).next (length (written_at (site_at setting.rules pc.0) core.old)))
+        × (core.new ≡ core_at (site_at setting.rules pc.0) core.old) }
 {
-    let o = operands(core, reach, pc, here);
+    let o = operands(core, setting, pc, here);
     let writes = changes(a_mode(here)) + changes(b_mode(here));
     let scene = Scene {
-        size: reach.rules.size,
+        size: setting.rules.size,
         modifier: modifier(here),
         pc,
         jump: o.jump,

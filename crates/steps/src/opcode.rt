@@ -1,4 +1,9 @@
 // What each opcode does with its registers (01, 'One step').
+ghost use Rattle.std.specs.Prelude.{◌≡◌, true, cond, not, ◌&&◌, ◌||◌, ◌<◌, ◌≤◌, ◌/◌, ◌%◌, ◌^◌, eqb, ltb};
+ghost use Rattle.std.proofs.Math.Option.{some};
+ghost use Rattle.offset.specs.Offset.{ahead};
+ghost use Rattle.cell.specs.Cells.{packed, unpacked, sound_word, with_number};
+ghost use Rattle.steps.specs.Inner.Acts.{copy_of, first_of, last_of, value_by, Answers, Does};
 
 use crate::modifier::{Met, meet, with_number_at};
 use crate::scene::Scene;
@@ -20,28 +25,31 @@ pub(crate) enum Executed {
 
 // The opcode's number of a sound cell.
 pub(crate) fn opcode(w: u64) -> u64
-    ensures { result }
+    requires { w < 2 ^ 46 }
+    ensures { result ≡ (unpacked w).opcode }
 {
     w >> 41
 }
 
 // A cell copied over another: opcode, modifier and numbers, not modes.
 fn copy(to: u64, from: u64) -> u64
-    ensures { x }
+    ensures { result ≡ packed (copy_of (unpacked to) (unpacked from)) }
 {
     from & 0x3fc0_ffff_ffff | ((to >> 32) & 0x3f) << 32
 }
 
 // The target word with a number in each target field, first pair first.
 fn store(t: u64, t1: Field, n1: Relative, t2: Field, n2: Relative) -> u64
-    ensures { x }
+    requires { (t < 2 ^ 46) × (n1.0 < 65536) × (n2.0 < 65536) }
+    ensures { result ≡ packed (with_number t2 n2.0 (with_number t1 n1.0 (unpacked t))) }
 {
     with_number_at(with_number_at(t, t1, n1), t2, n2)
 }
 
 // ADD a+b, SUB b-a and MUL a×b of two numbers.
 fn value(opcode: u64, size: u32, a: Relative, b: Relative) -> Relative
-    ensures { x }
+    requires { (a.0 < size) × (b.0 < size) × (size ≤ 46341) × (2 ≤ opcode) × (opcode < 5) }
+    ensures { (some result.0 ≡ value_by opcode size a.0 b.0) × (result.0 < size) }
 {
     if opcode == ADD {
         return plus(a, b, size);
@@ -54,7 +62,8 @@ fn value(opcode: u64, size: u32, a: Relative, b: Relative) -> Relative
 
 // DIV a/b and MOD a mod b in a target field, which a zero b leaves.
 fn part(opcode: u64, t: u64, field: Field, a: Relative, b: Relative) -> u64
-    ensures { x }
+    requires { (t < 2 ^ 46) × (a.0 < 65536) }
+    ensures { result ≡ cond (eqb b.0 0) t (packed (with_number field (cond (eqb opcode 5) (a.0 / b.0) (a.0 % b.0)) (unpacked t))) }
 {
     if b.0 == 0 {
         return t;
@@ -67,7 +76,7 @@ fn part(opcode: u64, t: u64, field: Field, a: Relative, b: Relative) -> u64
 
 // JMZ: whether some tested b is 0; JMN: whether some isn't.
 fn tests(opcode: u64, b1: Relative, b2: Relative) -> bool
-    ensures { x }
+    ensures { result ≡ cond (eqb opcode 8) (eqb b1.0 0 || eqb b2.0 0) (not (eqb b1.0 0) || not (eqb b2.0 0)) }
 {
     if opcode == JMZ {
         return (b1.0 == 0) | (b2.0 == 0);
@@ -78,21 +87,22 @@ fn tests(opcode: u64, b1: Relative, b2: Relative) -> bool
 impl Scene {
     // PC+1.
     fn onward(self) -> Absolute
-        ensures { x }
+        ensures { result.0 ≡ ahead self.size self.pc.0 1 }
     {
         add(self.pc, Relative(1), self.size)
     }
 
     // The numbers of both registers that meet.
     fn met(self) -> (Met, Met)
-        ensures { x }
+        ensures { (result.0 ≡ first_of self.modifier self.ra self.rb) × (result.1 ≡ last_of self.modifier self.ra self.rb) }
     {
         meet(self.modifier, self.ra, self.rb)
     }
 
     // MOV: a goes to the target; under I opcode and modifier do, too.
     fn moves(self, target: &mut u64) -> Executed
-        ensures { x }
+        requires { sound_word self.size target.old ≡ true }
+        ensures { Does 1 self target.old result target.new }
     {
         let next = self.onward();
         let t = *target;
@@ -107,7 +117,8 @@ impl Scene {
 
     // ADD, SUB and MUL.
     fn sums(self, opcode: u64, target: &mut u64) -> Executed
-        ensures { x }
+        requires { (sound_word self.size target.old ≡ true) × (2 ≤ opcode) × (opcode < 5) }
+        ensures { Does opcode self target.old result target.new }
     {
         let next = self.onward();
         let (p, q) = self.met();
@@ -124,7 +135,8 @@ impl Scene {
 
     // DIV and MOD: a zero b ends the process, the other field is still written.
     fn divides(self, opcode: u64, target: &mut u64) -> Executed
-        ensures { x }
+        requires { (sound_word self.size target.old ≡ true) × (5 ≤ opcode) × (opcode < 7) }
+        ensures { Does opcode self target.old result target.new }
     {
         let (p, q) = self.met();
         let b1 = p.b;
@@ -146,7 +158,8 @@ impl Scene {
 
     // JMZ and JMN.
     fn jumps(self, opcode: u64) -> Executed
-        ensures { x }
+        requires { (8 ≤ opcode) × (opcode < 10) }
+        ensures { Answers opcode self 0 result }
     {
         let (p, q) = self.met();
         if tests(opcode, p.b, q.b) {
@@ -157,7 +170,8 @@ impl Scene {
 
     // DJN: stores b-1 and goes when some result isn't 0.
     fn counts(self, target: &mut u64) -> Executed
-        ensures { x }
+        requires { sound_word self.size target.old ≡ true }
+        ensures { Does 10 self target.old result target.new }
     {
         let t = *target;
         let (p, q) = self.met();
@@ -172,7 +186,9 @@ impl Scene {
 
     // SLT: whether every a is below its b; SNE: whether one differs; CMP, SEQ: whether none does. Under I the A register is also compared whole with the live cell.
     fn passes(self, opcode: u64, live: u64) -> bool
-        ensures { x }
+        ensures { let p = first_of self.modifier self.ra self.rb in let q = last_of self.modifier self.ra self.rb in
+            let same = eqb p.a.0 p.b.0 && eqb q.a.0 q.b.0 && (not (eqb self.modifier 6) || eqb self.ra live) in
+            result ≡ cond (eqb opcode 14) (ltb p.a.0 p.b.0 && ltb q.a.0 q.b.0) (cond (eqb opcode 13) (not same) same) }
     {
         let (p, q) = self.met();
         if opcode == SLT {
@@ -187,7 +203,8 @@ impl Scene {
 
     // CMP, SEQ, SNE and SLT: skip, or go on.
     fn skips(self, opcode: u64, live: u64) -> Executed
-        ensures { x }
+        requires { (sound_word self.size live ≡ true) × (11 ≤ opcode) × (opcode < 15) }
+        ensures { Does opcode self live result live }
     {
         let next = self.onward();
         if self.passes(opcode, live) {
@@ -198,7 +215,8 @@ impl Scene {
 
     // The nineteen opcodes, after both operands. LDP and STP are refused before: the last two arms are never reached.
     pub(crate) fn act(self, opcode: u64, target: &mut u64) -> Executed
-        ensures { x }
+        requires { (sound_word self.size target.old ≡ true) × (opcode ≤ 16) }
+        ensures { Does opcode self target.old result target.new }
     {
         match opcode {
             DAT => Executed::Dat(self.writes),

@@ -1,5 +1,11 @@
 // What an executed instruction does to the ring: the front entry is popped, and the next places are pushed. The tail is the slot that the next entry goes to.
-ghost use Rattle.std.specs.Prelude.{◌≡◌};
+ghost use Rattle.std.specs.Prelude.{◌≡◌, cond, ◌-◌, ◌^◌, ◌<◌, ◌≤◌, eqb, get_or, set};
+ghost use Rattle.std.proofs.Math.ListN as lists;
+ghost use Rattle.answer.specs.Numbers.{told, told_error, gives};
+ghost use Rattle.offset.specs.Offset.{ahead};
+ghost use Rattle.machine.specs.Queue.{packed_entry, unpacked_entry, entry, full, started};
+ghost use Rattle.lent.specs.Parts.{queue_of};
+ghost use Rattle.steps.specs.Inner.Queueing.{Front, Near, Requeued, tail_of, ended};
 
 use crate::opcode::Executed;
 use answer::{Answer, Error};
@@ -44,7 +50,10 @@ fn start_child(
     place: Absolute,
     name: u8,
 ) -> u32
-    ensures { x }
+    requires { (lists.length queue.old ≤ 65535) × (tail ≡ tail_of (queue_of queue.old processes.old)) × (processes.old.ring.head < lists.length queue.old) × (processes.old.ring.length ≤ lists.length queue.old) × (name < 16)
+        × (get_or processes.old.threads name 0 ≡ 4294967295 → ⊥) × (get_or processes.old.counts name 0 < 4294967295) }
+    ensures { (queue_of queue.new processes.new ≡ cond (full (queue_of queue.old processes.old) name) (queue_of queue.old processes.old) (started place.0 name (queue_of queue.old processes.old)))
+        × (result ≡ tail_of (queue_of queue.new processes.new)) }
 {
     if queue.len() <= processes.ring.length as usize {
         return tail;
@@ -68,7 +77,9 @@ fn start_child(
 
 // A process of a name ends: the answer is 0 if the name has entries left.
 fn end_process(processes: &mut Processes, name: u8, end: Error) -> Answer
-    ensures { x }
+    requires { (name < 16) × (0 < get_or processes.old.counts name 0) × (0 < processes.old.ring.length) }
+    ensures { (told result ≡ cond (eqb (get_or processes.new.counts name 0) 0) (told_error end) (gives 0 0))
+        × (processes.new ≡ ended name processes.old) }
 {
     let who = name as usize;
     processes.ring.length -= 1;
@@ -95,7 +106,8 @@ pub(crate) fn requeue(
     w: u64,
     executed: Executed,
 ) -> Stepped
-    ensures { x }
+    requires { Front (queue_of queue.old processes.old) tail × (w ≡ get_or queue.old processes.old.ring.head 0) × Near executed }
+    ensures { Requeued (queue_of queue.old processes.old) executed result (queue_of queue.new processes.new) }
 {
     processes.ring.head = slot_after(processes.ring.head, queue.len() as u32);
     match executed {

@@ -1,51 +1,26 @@
 // The run loop on the lent parts of a record whose header is sound, without its names (01, 'One step', its last paragraph).
+ghost use Rattle.std.specs.Prelude.{◌≡◌, true, cond, ◌+◌, ◌-◌, ◌≤◌};
+ghost use Rattle.answer.specs.Numbers.{told, gives};
+ghost use Rattle.refusal.specs.Checks as check;
+ghost use Rattle.lent.specs.Parts.{unnamed};
+ghost use Rattle.lent.specs.Given.{given, given_by};
+ghost use Rattle.steps.specs.Inner.Ready.{Ready, plays_of, Plays, Scanned, ran_of};
 
 use crate::Ran;
 use crate::opcode::opcode;
-use crate::reach::Reach;
+use crate::setting::Setting;
 use crate::stepping::{fetch, step_once};
 use answer::{Answer, Error};
-use machine::{Processes, Rules};
+use machine::Processes;
 use offset::ahead;
 use refusal::refusal;
 use scan::scan;
 use types::opcode::NOP;
 
-// Steps while steps taken are below a ceiling, up to the first answer not 0, where each can be refused by 10 only.
-fn play(
-    core: &mut [u64],
-    queue: &mut [u64],
-    reach: Reach,
-    processes: &mut Processes,
-    until: u64,
-) -> Ran
-    ensures { x }
-{
-    let before = processes.steps;
-    let mut tail = ahead(
-        processes.ring.head,
-        processes.ring.length,
-        queue.len() as u32,
-    );
-    let mut writes: u64 = 0;
-    while (processes.steps as u64) < until {
-        let f = fetch(core, queue, processes.ring.head);
-        if opcode(f.cell) > NOP {
-            return ran(Err(Error::PrivateMemory), writes, before, processes);
-        }
-        let s = step_once(core, queue, reach, processes, tail, f);
-        tail = s.tail;
-        writes += s.writes;
-        if s.answer.is_err() {
-            return ran(s.answer, writes, before, processes);
-        }
-    }
-    ran(Ok(()), writes, before, processes)
-}
-
-// What a run gives.
+// What a run gives, from the steps taken before it.
 fn ran(answer: Answer, writes: u64, before: u32, processes: &Processes) -> Ran
-    ensures { x }
+    requires { before ≤ processes.now.steps }
+    ensures { result ≡ ran_of answer writes before processes.now.steps }
 {
     let steps = (processes.steps - before) as u64;
     Ran {
@@ -55,43 +30,94 @@ fn ran(answer: Answer, writes: u64, before: u32, processes: &Processes) -> Ran
     }
 }
 
+// Steps while steps taken are below a ceiling, up to the first answer not 0, where each can be refused by 10 only.
+fn play(
+    core: &mut [u64],
+    queue: &mut [u64],
+    setting: Setting,
+    processes: &mut Processes,
+    until: u64,
+) -> Ran
+    requires { Ready (unnamed core.old queue.old setting.rules setting.held processes.old) × Plays until (unnamed core.old queue.old setting.rules setting.held processes.old) }
+    ensures { given (told result.answer) result.writes result.steps (unnamed core.new queue.new setting.rules setting.held processes.new)
+        ≡ given_by (plays_of (until - processes.old.steps) (unnamed core.old queue.old setting.rules setting.held processes.old)) }
+{
+    let before = processes.steps;
+    let ring = processes.ring;
+    let mut tail = ahead(ring.head, ring.length, queue.len() as u32);
+    let mut writes: u64 = 0;
+    while (processes.steps as u64) < until {
+        let f = fetch(core, queue, processes.ring.head);
+        if opcode(f.cell) > NOP {
+            return ran(Err(Error::PrivateMemory), writes, before, processes);
+        }
+        let s = step_once(core, queue, setting, processes, tail, f);
+        tail = s.tail;
+        writes += s.writes;
+        if s.answer.is_err() {
+            return ran(s.answer, writes, before, processes);
+        }
+    }
+    ran(Ok(()), writes, before, processes)
+}
+
+// The refusal of the next step: 0, and not asked, where the record is trusted.
+fn asked(
+    core: &[u64],
+    queue: &[u64],
+    setting: Setting,
+    processes: &Processes,
+    trusted: bool,
+) -> Answer
+    ensures { told result ≡ cond trusted (gives 0 0) (check.refused (unnamed core.now queue.now setting.rules setting.held processes.now)) }
+{
+    if trusted {
+        return Ok(());
+    }
+    refusal(core, queue, setting.rules, setting.held, processes)
+}
+
+// Up to which number of steps taken to play.
+fn limit(ceiling: u64, taken: u32, trusted: bool) -> u64
+    ensures { result ≡ cond trusted ceiling (taken + 1) }
+{
+    if trusted {
+        return ceiling;
+    }
+    taken as u64 + 1
+}
+
 // The steps up to the ceiling where the record is trusted; else the next step, its refusal asked first.
 fn ask(
     core: &mut [u64],
     queue: &mut [u64],
-    reach: Reach,
-    held: u32,
+    setting: Setting,
     processes: &mut Processes,
     ceiling: u64,
     trusted: bool,
 ) -> Ran
-    ensures { x }
+    requires { Ready (unnamed core.old queue.old setting.rules setting.held processes.old)
+        × (trusted ≡ true → Scanned ceiling (unnamed core.old queue.old setting.rules setting.held processes.old)) }
+    ensures { given (told result.answer) result.writes result.steps (unnamed core.new queue.new setting.rules setting.held processes.new)
+        ≡ given_by (plays_of (cond trusted ceiling (processes.old.steps + 1) - processes.old.steps) (unnamed core.old queue.old setting.rules setting.held processes.old)) }
 {
-    let mut until = ceiling;
-    if !trusted {
-        let answer = refusal(core, queue, reach.rules, held, processes);
-        if answer.is_err() {
-            return Ran {
-                answer,
-                writes: 0,
-                steps: 0,
-            };
-        }
-        until = processes.steps as u64 + 1;
+    let answer = asked(core, queue, setting, processes, trusted);
+    if answer.is_err() {
+        return ran(answer, 0, processes.steps, processes);
     }
-    play(core, queue, reach, processes, until)
+    let until = limit(ceiling, processes.steps, trusted);
+    play(core, queue, setting, processes, until)
 }
 
 // Whether a scan of the whole record pays, and the record passes it.
 fn trusts(
     core: &[u64],
     queue: &[u64],
-    rules: Rules,
-    held: u32,
+    setting: Setting,
     processes: &Processes,
     ceiling: u64,
 ) -> bool
-    ensures { x }
+    ensures { result ≡ true → Scanned ceiling (unnamed core.now queue.now setting.rules setting.held processes.now) }
 {
     let done = processes.steps as u64;
     if ceiling < done {
@@ -99,26 +125,39 @@ fn trusts(
     }
     let steps = ceiling - done;
     let least = core.len() as u64 / 16 + processes.ring.length as u64 / 16;
-    least <= steps && processes.ring.length != 0 && scan(core, queue, rules, held, processes, steps)
+    if steps < least {
+        return false;
+    }
+    if processes.ring.length == 0 {
+        return false;
+    }
+    scan(
+        core,
+        queue,
+        setting.rules,
+        setting.held,
+        processes,
+        steps,
+    )
 }
 
 // Steps while steps taken are below the ceiling, up to the first answer not 0.
 pub(crate) fn run_loop(
     core: &mut [u64],
     queue: &mut [u64],
-    rules: Rules,
-    held: u32,
+    setting: Setting,
     processes: &mut Processes,
     ceiling: u64,
 ) -> Ran
-    ensures { x }
+    requires { Ready (unnamed core.old queue.old setting.rules setting.held processes.old) }
+    ensures { given (told result.answer) result.writes result.steps (unnamed core.new queue.new setting.rules setting.held processes.new)
+        ≡ given_by (plays_of (ceiling - processes.old.steps) (unnamed core.old queue.old setting.rules setting.held processes.old)) }
 {
-    let reach = Reach::of(rules);
-    let trusted = trusts(core, queue, rules, held, processes, ceiling);
+    let trusted = trusts(core, queue, setting, processes, ceiling);
     let before = processes.steps;
     let mut writes: u64 = 0;
     while (processes.steps as u64) < ceiling {
-        let s = ask(core, queue, reach, held, processes, ceiling, trusted);
+        let s = ask(core, queue, setting, processes, ceiling, trusted);
         writes += s.writes;
         if s.answer.is_err() {
             return ran(s.answer, writes, before, processes);

@@ -1,8 +1,18 @@
 // One step that is not refused (01, 'One step').
+ghost use Rattle.std.specs.Prelude.{◌≡◌, ◌<◌, get_or};
+ghost use Rattle.std.proofs.Math.ListN as lists;
+ghost use Rattle.answer.specs.Numbers.{told};
+ghost use Rattle.machine.specs.declared.Roster.{Roster};
+ghost use Rattle.machine.specs.Queue.{unpacked_entry};
+ghost use Rattle.machine.specs.Step as spec;
+ghost use Rattle.lent.specs.Parts.{parts, queue_of};
+ghost use Rattle.lent.specs.Given.{given, given_by};
+ghost use Rattle.steps.specs.Inner.Instruction.{Executable};
+ghost use Rattle.steps.specs.Inner.Queueing.{Front, tail_of};
 
 use crate::execute::execute;
-use crate::reach::Reach;
 use crate::ring::{Stepped, requeue};
+use crate::setting::Setting;
 use entry::unpack;
 use machine::Processes;
 
@@ -15,7 +25,8 @@ pub(crate) struct Fetched {
 
 // Reads the front entry and the cell at its place.
 pub(crate) fn fetch(core: &[u64], queue: &[u64], head: u32) -> Fetched
-    ensures { x }
+    requires { (head < lists.length queue.now) × ((unpacked_entry (get_or queue.now head 0)).place.0 < lists.length core.now) }
+    ensures { (result.entry ≡ get_or queue.now head 0) × (result.cell ≡ get_or core.now (unpacked_entry (get_or queue.now head 0)).place.0 0) }
 {
     let entry = queue[head as usize];
     let cell = core[unpack(entry).place.0 as usize];
@@ -26,15 +37,19 @@ pub(crate) fn fetch(core: &[u64], queue: &[u64], head: u32) -> Fetched
 pub(crate) fn step_once(
     core: &mut [u64],
     queue: &mut [u64],
-    reach: Reach,
+    setting: Setting,
     processes: &mut Processes,
     tail: u32,
     fetched: Fetched,
 ) -> Stepped
-    ensures { x }
+    requires { Front (queue_of queue.old processes.old) tail × (fetched.entry ≡ get_or queue.old processes.old.ring.head 0)
+        × Executable setting.rules core.old (unpacked_entry (get_or queue.old processes.old.ring.head 0)).place.0 fetched.cell × (processes.old.steps < 4294967295) }
+    ensures { ((names : Roster) → given (told result.answer) result.writes 1 (parts core.new queue.new setting.rules names processes.new)
+        ≡ given_by (spec.executed (parts core.old queue.old setting.rules names processes.old)))
+        × (result.tail ≡ tail_of (queue_of queue.new processes.new)) }
 {
     let w = fetched.entry;
-    let executed = execute(core, reach, unpack(w).place, fetched.cell);
+    let executed = execute(core, setting, unpack(w).place, fetched.cell);
     processes.steps += 1;
     requeue(queue, processes, tail, w, executed)
 }
