@@ -50,7 +50,7 @@ fn start_child(
     place: Absolute,
     name: u8,
 ) -> u32
-    requires { (lists.length queue.old ≤ 65535) × (tail ≡ tail_of (queue_of queue.old processes.old)) × (processes.old.ring.head < lists.length queue.old) × (processes.old.ring.length ≤ lists.length queue.old) × (name < 16)
+    requires { (lists.length queue.old ≤ 65535) × (tail ≡ tail_of (queue_of queue.old processes.old)) × (name < 16)
         × (get_or processes.old.threads name 0 ≡ 4294967295 → ⊥) × (get_or processes.old.counts name 0 < 4294967295) }
     ensures { (queue_of queue.new processes.new ≡ cond (full (queue_of queue.old processes.old) name) (queue_of queue.old processes.old) (started place.0 name (queue_of queue.old processes.old)))
         × (result ≡ tail_of (queue_of queue.new processes.new)) }
@@ -78,7 +78,7 @@ fn start_child(
 // A process of a name ends: the answer is 0 if the name has entries left.
 fn end_process(processes: &mut Processes, name: u8, end: Error) -> Answer
     requires { (name < 16) × (0 < get_or processes.old.counts name 0) × (0 < processes.old.ring.length) }
-    ensures { (told result ≡ cond (eqb (get_or processes.new.counts name 0) 0) (told_error end) (gives 0 0))
+    ensures { (told result ≡ cond (eqb (get_or processes.old.counts name 0 - 1) 0) (told_error end) (gives 0 0))
         × (processes.new ≡ ended name processes.old) }
 {
     let who = name as usize;
