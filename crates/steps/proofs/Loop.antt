@@ -1,25 +1,28 @@
 -- What is left to play gives what the whole run gives.
 -- Assumes nothing.
 use mathlib.Core.Path.{◌≡◌, refl, sym, ap, ap₂, ◌∙◌, subst}
-use mathlib.Core.Bool.{Bool, true, false, cond}
+use mathlib.Core.Bool.{Bool, true, false, not, cond}
 use Prim.Native.Nat.{ℕ, zero, suc, ◌+◌, ◌-◌, ◌*◌, ◌≤◌}
 use native.Mathlib.Nat.{add-zero, zero-add, add_assoc}
 use native.Mathlib.Omega.{arith}
 use lib.Dec.{eqb}
 use borrow.Author.Tests.{eqb-true, eqb-false}
-use Rattle.answer.specs.declared.Answer.{Answer}
-use Rattle.answer.specs.declared.Answer.TheVariants.{Done}
-use Rattle.answer.specs.Numbers.{Told, told}
+use Rattle.std.specs.Prelude.{Result, Ok, Err}
+use Rattle.std.specs.Result.{is_err}
+use Rattle.answer.specs.declared.Error.{Error}
+use Rattle.answer.specs.declared.Error.TheVariants.{InvalidCoreSize, InvalidMemory, WarriorTooLong, InvalidCode, InvalidNameOrPlace, NoRoom, NoRemainingProcesses, NumbersExhausted, UnsoundRecord, PrivateMemory, ExecuteDat, DivideByZero, Malformed, InvalidLimit}
+use Rattle.answer.specs.Numbers.{Told, told, told_error}
 use Rattle.laws.specs.Lists.{one_if}
-use Rattle.machine.specs.declared.Ring.{Ring}
 use Rattle.machine.specs.State.{Machine, Outcome, told_by, joined, and_then}
 use Rattle.machine.specs.Step.{step, executed, executes}
 use Rattle.machine.proofs.Step.{step-by-cases, step_counts, step_value, step-writes-three}
 use Rattle.lent.specs.Given.{Given, given, given_by}
 use Rattle.steps.specs.declared.Ran.{Ran}
-use Rattle.steps.specs.Inner.Queueing.{ring_of}
 use Rattle.steps.specs.Inner.Ready.{Ready, step_of, plays_of, ran_of}
 use Rattle.steps.proofs.Naming.{naming, letters, ones, lettered, named, step-named, named-sound, unnamed-ready, sound-ready}
+
+abbrev Answer : Type 0
+Answer = Result (Unit {0}) Error
 
 -- what is known of up to k steps of a machine that is ready
 pub record Counted (k : ℕ) (m : Machine) (o : Outcome) : Type 0 where
@@ -160,10 +163,10 @@ module _ {ceiling : ℕ} {start m : Machine} {w : ℕ} (g : Going ceiling start 
   abbrev steps : ℕ
   steps = m.header.steps - start.header.steps
 
-  pub over : ceiling ≤ m.header.steps → given (told Done) w steps m ≡ given_by (plays_of (ceiling - start.header.steps) start)
+  pub over : ceiling ≤ m.header.steps → given (told {A = Unit {0}} (Ok tt)) w steps m ≡ given_by (plays_of (ceiling - start.header.steps) start)
   unfolding plays_of
   over h =
-      ap₂ (λ (i j : ℕ). given (told Done) i j m) (sym (add-zero w)) (sym (add-zero steps))
+      ap₂ (λ (i j : ℕ). given (told {A = Unit {0}} (Ok tt)) i j m) (sym (add-zero w)) (sym (add-zero steps))
       ∙ ap (λ (k : ℕ). after w steps (plays_of k m)) (none h)
       ∙ g.same
     where
@@ -240,6 +243,27 @@ module _ {ceiling : ℕ} {start m : Machine} {w : ℕ} (g : Going ceiling start 
           }
 
 -- what a run gives back, put together with the parts that it leaves
-pub giving : (build : Ring → ℕ → Machine) (b : ℕ) {r : Ran} {answer : Answer} {w h l t : ℕ} {X : Given} → r ≡ ran_of answer w h l b t
-    → given (told answer) w (t - b) (build (ring_of h l) t) ≡ X → given (told r.answer) r.writes r.steps (build r.ring r.taken) ≡ X
-giving build b e x = ap (λ (s : Ran). given (told s.answer) s.writes s.steps (build s.ring s.taken)) e ∙ x
+pub giving : {r : Ran} {answer : Answer} {w b t : ℕ} {m : Machine} {X : Given} → r ≡ ran_of answer w b t
+    → given (told answer) w (t - b) m ≡ X → given (told r.answer) r.writes r.steps m ≡ X
+giving {m = m} e x = ap (λ (s : Ran). given (told s.answer) s.writes s.steps m) e ∙ x
+
+-- an answer is 0 where it is no error
+pub number-is : (a : Answer) → eqb (told a).number 0 ≡ not (is_err a)
+number-is (Ok x) = refl
+number-is (Err e) = by e
+  where
+    by : (e : Error) → eqb (told_error e).number 0 ≡ false
+    by InvalidCoreSize = refl
+    by InvalidMemory = refl
+    by WarriorTooLong = refl
+    by (InvalidCode i) = refl
+    by InvalidNameOrPlace = refl
+    by NoRoom = refl
+    by NoRemainingProcesses = refl
+    by NumbersExhausted = refl
+    by UnsoundRecord = refl
+    by PrivateMemory = refl
+    by (ExecuteDat p) = refl
+    by DivideByZero = refl
+    by (Malformed p) = refl
+    by InvalidLimit = refl
