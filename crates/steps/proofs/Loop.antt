@@ -50,7 +50,7 @@ module _ (m : Machine) (r : Ready m) where
         λ z. (c.1 ∙ ap (λ (k : ℕ). one_if (executes k)) z, step_value plain z),
       )
 
-  step-counted : Counted 1 m (step_of m)
+  pub step-counted : Counted 1 m (step_of m)
   step-counted =
       let f : Facts (named letters ones (step_of m)) = subst Facts one step-facts in
       record {
@@ -243,12 +243,12 @@ module _ {ceiling : ℕ} {start m : Machine} {w : ℕ} (g : Going ceiling start 
           }
 
 -- what a run gives back, put together with the parts that it leaves
-pub giving : {r : Ran} {answer : Answer} {w b t : ℕ} {m : Machine} {X : Given} → r ≡ ran_of answer w b t
+pub giving : (b t : ℕ) {r : Ran} {answer : Answer} {w : ℕ} {m : Machine} {X : Given} → r ≡ ran_of answer w b t
     → given (told answer) w (t - b) m ≡ X → given (told r.answer) r.writes r.steps m ≡ X
-giving {m = m} e x = ap (λ (s : Ran). given (told s.answer) s.writes s.steps m) e ∙ x
+giving b t {m = m} e x = ap (λ (s : Ran). given (told s.answer) s.writes s.steps m) e ∙ x
 
 -- an answer is 0 where it is no error
-pub number-is : (a : Answer) → eqb (told a).number 0 ≡ not (is_err a)
+number-is : (a : Answer) → eqb (told a).number 0 ≡ not (is_err a)
 number-is (Ok x) = refl
 number-is (Err e) = by e
   where
@@ -267,3 +267,9 @@ number-is (Err e) = by e
     by DivideByZero = refl
     by (Malformed p) = refl
     by InvalidLimit = refl
+
+pub failed : (a : Answer) → is_err a ≡ true → eqb (told a).number 0 ≡ false
+failed a e = number-is a ∙ ap not e
+
+pub went : (a : Answer) → is_err a ≡ false → eqb (told a).number 0 ≡ true
+went a e = number-is a ∙ ap not e

@@ -22,7 +22,7 @@ use Rattle.steps.specs.Inner.Queueing.{tail_of, Front}
 use Rattle.steps.specs.Inner.Ready.{Ready, step_of, plays_of, Playable, Scanned}
 use Rattle.steps.proofs.Answers.{step_left, here-sound, fetches, front-is, private-step, executable, executed-step}
 use Rattle.steps.proofs.Trust.{Playing, playable, plays-on}
-use Rattle.steps.proofs.Loop.{Going, as-run, onward, few-writes, stopped, reaches, again}
+use Rattle.steps.proofs.Loop.{Going, step-counted, as-run, onward, few-writes, stopped, reaches, again}
 
 -- the inner loop at a machine, with the writes so far and the tail
 pub record Round (until : ℕ) (start m : Machine) (w tail : ℕ) : Type 0 where
@@ -70,6 +70,11 @@ module _ {until : ℕ} {start m : Machine} {w tail : ℕ} (g : Round until start
       module _ {t : Told} {sw : ℕ} {n : Machine} (done : given t sw 1 n ≡ given_by (executed m)) where
         one-step : given t sw 1 n ≡ given_by (step_of m)
         one-step = done ∙ executed-step m g.going.ready can-play few-is
+
+        pub one-more : n.header.steps ≡ m.header.steps + 1
+        one-more =
+            ap (λ (x : Given). x.machine.header.steps) one-step ∙ (step-counted m g.going.ready).steps
+            ∙ ap (λ (x : Given). m.header.steps + x.steps) (sym one-step)
 
         played : given t sw 1 n ≡ given_by (plays_of 1 m)
         played = one-step ∙ as-run m g.going.ready

@@ -39,7 +39,8 @@ fn play(
     until: u64,
 ) -> Ran
     requires { Ready (unnamed core.old queue.old setting.rules setting.held processes.old) × Plays until (unnamed core.old queue.old setting.rules setting.held processes.old) }
-    ensures { given (told result.answer) result.writes result.steps (unnamed core.new queue.new setting.rules setting.held processes.new)
+    ensures counted { processes.new.steps ≤ 4294967295 }
+    ensures plays { given (told result.answer) result.writes result.steps (unnamed core.new queue.new setting.rules setting.held processes.new)
         ≡ given_by (plays_of (until - processes.old.steps) (unnamed core.old queue.old setting.rules setting.held processes.old)) }
 {
     let before = processes.steps;
@@ -98,7 +99,8 @@ fn ask(
 ) -> Ran
     requires { Ready (unnamed core.old queue.old setting.rules setting.held processes.old)
         × (trusted ≡ true → Scanned ceiling (unnamed core.old queue.old setting.rules setting.held processes.old)) }
-    ensures { given (told result.answer) result.writes result.steps (unnamed core.new queue.new setting.rules setting.held processes.new)
+    ensures counted { processes.new.steps ≤ 4294967295 }
+    ensures plays { given (told result.answer) result.writes result.steps (unnamed core.new queue.new setting.rules setting.held processes.new)
         ≡ given_by (plays_of (cond trusted ceiling (processes.old.steps + 1) - processes.old.steps) (unnamed core.old queue.old setting.rules setting.held processes.old)) }
 {
     let answer = asked(core, queue, setting, processes, trusted);

@@ -1,7 +1,6 @@
 -- What the loop of `steps::running::run_loop` keeps, and its measure.
 use Prim.Native.Nat.{◌-◌, ◌≤◌}
 use Rattle.lent.specs.Parts.{unnamed}
-use Rattle.steps.specs.Inner.Queueing.{ring_of}
 use Rattle.steps.proofs.Loop.{Going}
 use Rattle.steps.proofs.Rounds.{Trusting}
 use Rattle.steps.proofs.running.run_loop.Given as goal
@@ -9,8 +8,8 @@ use Rattle.steps.proofs.running.run_loop.Given as goal
 abbrev pub invariant-loop-processes : goal.invariant-loop-processes
 invariant-loop-processes l =
     let i = l.initial in
-    Going l.ceiling (unnamed i.core i.queue i.rules (ring_of i.head i.length) l.taken l.held i.counts i.threads) (unnamed l.core l.queue l.rules (ring_of l.head l.length) l.done l.held l.counts l.threads) l.writes
-    × Trusting l.ceiling (unnamed l.core l.queue l.rules (ring_of l.head l.length) l.done l.held l.counts l.threads) l.trusted × (l.done ≤ 4294967295)
+    let m = unnamed l.core l.queue l.setting.rules l.setting.held l.processes in
+    Going l.ceiling (unnamed i.core i.queue l.setting.rules l.setting.held i.processes) m l.writes × Trusting l.ceiling m l.trusted × (l.processes.steps ≤ 4294967295)
 
 abbrev pub decreases-loop-processes : goal.decreases-loop-processes
-decreases-loop-processes l = l.ceiling - l.done
+decreases-loop-processes l = l.ceiling - l.processes.steps
