@@ -3,11 +3,10 @@
 
 ghost use Rattle.std.specs.Prelude.{◌≡◌, cond, eqb, get_or};
 ghost use Rattle.machine.specs.Pointers as spec;
-ghost use Rattle.types.specs.Types.{first_bit};
 ghost use Rattle.address.specs.Rounding.{decremented, incremented, field_through, aimed};
 
 use offset::{Absolute, Relative};
-use types::field::{A, B};
+use types::field::Field;
 use types::mode::{POST_INC_INDIRECT_A, PRE_DEC_INDIRECT_A};
 
 // One less than a field number, round the end; 0 in a core of no cells.
@@ -37,14 +36,14 @@ pub fn increment(n: Relative, size: u32) -> Relative
     Relative(0)
 }
 
-// The first bit of the field that an indirect mode goes through.
-pub fn field_of(mode: u64) -> u64
-    ensures { result ≡ first_bit (field_through mode) }
+// The field that an indirect mode goes through.
+pub fn field_of(mode: u64) -> Field
+    ensures { result ≡ field_through mode }
 {
     if mode % 2 == 0 {
-        return A;
+        return Field::A;
     }
-    B
+    Field::B
 }
 
 // The number that the pointer is made of: the one found, minus 1 for `{` and `<`.

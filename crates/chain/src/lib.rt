@@ -63,7 +63,7 @@ fn lowered(w: u64, size: u32, mode: u64) -> u64
         return w;
     }
     if mode < POST_INC_INDIRECT_A {
-        let field = field_of(mode);
+        let field = field_of(mode).first_bit();
         return with_number(w, field, plus(number(w, field), Relative(size - 1), size));
     }
     w
@@ -77,7 +77,7 @@ fn raised(w: u64, size: u32, mode: u64) -> u64
     if mode < POST_INC_INDIRECT_A {
         return w;
     }
-    let field = field_of(mode);
+    let field = field_of(mode).first_bit();
     with_number(w, field, plus(number(w, field), Relative(1), size))
 }
 
@@ -92,7 +92,7 @@ fn pointer(pc: Absolute, mode: u64, folded: Relative, w: u64, limit: u32, size: 
     if mode < INDIRECT_A {
         return add(pc, folded, size);
     }
-    let found = number(w, field_of(mode));
+    let found = number(w, field_of(mode).first_bit());
     add(pc, fold_sum(folded, found, limit, size), size)
 }
 

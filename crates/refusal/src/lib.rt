@@ -38,7 +38,7 @@ fn look(core: &[u64], size: u32, location: Absolute, word: u64, mode: u64) -> bo
     if mode < INDIRECT_A {
         return true;
     }
-    let field = field_of(mode);
+    let field = field_of(mode).first_bit();
     let to = aim(size, mode, number(word, field));
     let pointer = add(location, to, size);
     let i = pointer.0 as usize;
@@ -54,7 +54,7 @@ fn changed(word: u64, size: u32, mode: u64) -> u64
     if mode < PRE_DEC_INDIRECT_A {
         return word;
     }
-    let field = field_of(mode);
+    let field = field_of(mode).first_bit();
     let found = number(word, field);
     if mode < POST_INC_INDIRECT_A {
         return with_number(word, field, decrement(found, size));

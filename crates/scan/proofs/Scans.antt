@@ -1,12 +1,14 @@
 -- Laws of the scan: what each test that fails, and all that pass, say of the whole.
 -- Assumes nothing.
-use mathlib.Core.Path.{◌≡◌, refl, sym, ap, ◌∙◌}
+use lib.Pointwise.{pointwise}
+use mathlib.Core.Path.{◌≡◌, refl, sym, ap, ap₂, ◌∙◌}
 use mathlib.Core.Bool.{Bool, true, false, ◌&&◌}
 use mathlib.Core.List.{List, []}
-use Prim.Native.Nat.{ℕ}
+use Prim.Native.Nat.{ℕ, zero, suc, ◌≤◌}
 use lib.Dec.{eqb}
-use lib.ListN.{get_or}
+use lib.ListN.{length, get_or, take}
 use Rattle.laws.specs.Lists.{every, tally, table}
+use Rattle.laws.proofs.Loops.{take-table}
 use Rattle.laws.proofs.Tests.{and-false}
 use Rattle.machine.specs.declared.Processes.{Processes}
 use Rattle.machine.specs.declared.Rules.{Rules}
@@ -22,6 +24,16 @@ pub counts-tallied : (m : Machine) (t : List ℕ) → ((k : ℕ) → get_or t k 
     → every (λ i. eqb (get_or m.header.counts i 0) (get_or t i 0)) (table (λ i. i) 0 m.header.names.held) ≡ tallied m
 counts-tallied m t e =
     ap (λ (f : ℕ → ℕ). every (λ i. eqb (get_or m.header.counts i 0) (f i)) (table (λ i. i) 0 m.header.names.held)) (λ i k. e k i)
+
+-- two lists compared from their fronts
+tables-agree : (f g : ℕ → ℕ) (s n : ℕ) → pointwise eqb (table f s n) (table g s n) ≡ every (λ i. eqb (f i) (g i)) (table (λ i. i) s n)
+tables-agree f g s zero = refl
+tables-agree f g s (suc n) = ap (λ (b : Bool). eqb (f s) (g s) && b) (tables-agree f g (suc s) n)
+
+pub fronts-agree : (c t : List ℕ) (n : ℕ) → n ≤ length c → n ≤ length t
+    → pointwise eqb (take n c) (take n t) ≡ every (λ i. eqb (get_or c i 0) (get_or t i 0)) (table (λ i. i) 0 n)
+fronts-agree c t n h l =
+    ap₂ (pointwise eqb) (take-table 0 c n h) (take-table 0 t n l) ∙ tables-agree (λ (k : ℕ). get_or c k 0) (λ (k : ℕ). get_or t k 0) 0 n
 
 -- the entries are those of the queue and the processes, whatever the core
 pub by_parts : (core queue : List ℕ) (rules : Rules) (held : ℕ) (p : Processes)

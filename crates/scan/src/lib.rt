@@ -18,23 +18,20 @@ use soundness::sound_front;
 fn cells_sound(core: &[u64], size: u32) -> bool
     ensures { result ≡ every (sound_word size) core.now }
 {
-    if core.len() == 0 {
+    if core.is_empty() {
         return true;
     }
     let mut last = core[0];
     if !sound(last, size) {
         return false;
     }
-    let mut i: usize = 0;
-    while i < core.len() {
-        let w = core[i];
-        if w != last {
-            if !sound(w, size) {
+    for w in core {
+        if *w != last {
+            if !sound(*w, size) {
                 return false;
             }
-            last = w;
+            last = *w;
         }
-        i += 1;
     }
     true
 }
@@ -51,30 +48,7 @@ fn lasts(n: u32, steps: u64) -> bool
 fn all_last(numbers: &[u32], steps: u64) -> bool
     ensures { result ≡ every (lasting steps) numbers.now }
 {
-    let mut i: usize = 0;
-    while i < numbers.len() {
-        let n = numbers[i];
-        if !lasts(n, steps) {
-            return false;
-        }
-        i += 1;
-    }
-    true
-}
-
-// Whether the counts of the names held are these.
-fn counts_are<'a>(counts: &'a [u32; 16], tallies: &'a [u32; 16], held: usize) -> bool
-    requires { held ≤ 16 }
-    ensures { result ≡ every (λ i. eqb (get_or counts.now i 0) (get_or tallies.now i 0)) (table (λ i. i) 0 held) }
-{
-    let mut i: usize = 0;
-    while i < held {
-        if counts[i] != tallies[i] {
-            return false;
-        }
-        i += 1;
-    }
-    true
+    numbers.iter().all(|n| lasts(*n, steps))
 }
 
 // Whether every queued entry is sound, and each held name's count is the number of its entries.
@@ -87,18 +61,16 @@ fn entries_tallied(queue: &[u64], rules: Rules, held: u32, processes: &Processes
     let mut tallies: [u32; 16] = [0; 16];
     let mut slot = processes.ring.head;
     for _i in 0..processes.ring.length {
-        let at = slot as usize;
-        let w = queue[at];
+        let w = queue[slot as usize];
         if !sound_front(w, rules, held, processes) {
             return false;
         }
-        let e = unpack(w);
-        let who = e.name as usize;
-        let more = tallies[who] + 1;
-        tallies[who] = more;
+        let who = unpack(w).name as usize;
+        tallies[who] += 1;
         slot = ahead(slot, 1, slots);
     }
-    counts_are(&processes.counts, &tallies, held as usize)
+    let n = held as usize;
+    processes.counts[..n] == tallies[..n]
 }
 
 // Whether every cell and every queued entry is sound, each held name's count is the number of its entries, and no counter comes to its end within so many steps.
@@ -120,7 +92,7 @@ pub fn scan(
     if !lasts(processes.steps, steps) {
         return false;
     }
-    if !all_last(&processes.threads[..], steps) {
+    if !all_last(&processes.threads, steps) {
         return false;
     }
     if !entries_tallied(queue, rules, held, processes) {

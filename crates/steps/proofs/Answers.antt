@@ -11,8 +11,11 @@ use borrow.Author.Tests.{eqb-false, not-false, leb-true}
 use Rattle.laws.specs.Lists.{every}
 use Rattle.laws.proofs.Tests.{both, neither}
 use Rattle.laws.proofs.Tally.{count-le}
-use Rattle.answer.specs.Numbers.{gives, told}
+use Rattle.answer.specs.Numbers.{told}
+use Rattle.std.specs.Prelude.{Err}
+use Rattle.answer.specs.declared.Error.TheVariants.{PrivateMemory}
 use Rattle.cell.specs.Cells.{sound_word}
+use Rattle.machine.specs.declared.Processes.{Processes}
 use Rattle.machine.specs.declared.Roster.{Roster}
 use Rattle.machine.specs.declared.Rules.{Rules}
 use Rattle.machine.specs.State.{Machine, check, Verdict, accepted, refusal, first, settle}
@@ -25,14 +28,14 @@ use Rattle.machine.specs.Step as spec
 use Rattle.machine.specs.Step.{popped, pc, site, effect, step_written, counted, Queued, queued, next_told, executed, next_checks}
 use Rattle.machine.proofs.Soundness.{is-taken, SoundEntry, sound-entry}
 use Rattle.machine.proofs.Step.{nonzero}
-use Rattle.steps.specs.Inner.Apart.{parts, queue_of}
+use Rattle.lent.specs.Parts.{processes_of, parts, queue_of}
 use Rattle.lent.specs.Given.{Given, given, given_by}
 use Rattle.address.specs.Inner.Operands.{Fetched, private}
 use Rattle.address.proofs.Evaluation.{over-private, few-public}
 use Rattle.steps.specs.declared.opcode.Executed.{Executed}
 use Rattle.steps.specs.declared.ring.Stepped.{Stepped}
 use Rattle.steps.specs.Inner.Instruction.{Executable, answered}
-use Rattle.steps.specs.Inner.Queueing.{ring_of, tail_of, Front, next_of, writes_of, Requeued}
+use Rattle.steps.specs.Inner.Queueing.{tail_of, Front, next_of, writes_of, Requeued}
 use Rattle.steps.specs.Inner.Ready.{Ready, Playable, step_of}
 use Rattle.steps.proofs.Naming.{within, queued-within}
 
@@ -106,7 +109,7 @@ module _ (m : Machine) (ready : Ready m) (play : Playable m) where
   fetches = let f = fetched-is in (ready.head, rw f.cells f.place)
 
   -- what going on asks of the queue
-  pub front-is : {tail : ℕ} → tail ≡ tail_of m → Front (queue_of m.queue m.header.ring m.header.counts m.header.threads) tail
+  pub front-is : {tail : ℕ} → tail ≡ tail_of m → Front (queue_of m.queue (processes_of m.header)) tail
   front-is e =
       let k = count-le m.header.counts m.header.names.held (popped m).name at_front.held in
       let t = ready.sum in
@@ -125,7 +128,7 @@ module _ (m : Machine) (ready : Ready m) (play : Playable m) where
       }
 
   -- 10: LDP and STP
-  pub private-step : 16 < (fetched m.core (pc m)).opcode → given (gives 10 0) 0 0 m ≡ given_by (step_of m)
+  pub private-step : 16 < (fetched m.core (pc m)).opcode → given (told {A = Unit {0}} (Err PrivateMemory)) 0 0 m ≡ given_by (step_of m)
   unfolding step_of
   private-step h =
       let t = passed in
@@ -164,10 +167,14 @@ writes_are (ends divisor) w = refl
 writes_are (goes p) w = refl
 writes_are (splits p c) w = refl
 
--- an instruction executed, and the queue as it leaves it, whatever the steps taken and the names
-module _ (core queue counts threads : List ℕ) (rules : Rules) (head length' : ℕ) where
+-- an instruction executed, and the queue as it leaves it, whatever the names
+module _ (core queue : List ℕ) (rules : Rules) (p : Processes) where
   abbrev line : Machine
-  line = queue_of queue (ring_of head length') counts threads
+  line = queue_of queue p
+
+  -- the processes once the step is counted
+  abbrev pub later : Processes
+  later = record { ring = p.ring; steps = p.steps + 1; counts = p.counts; threads = p.threads }
 
   abbrev next : Next
   next = (effect_at (site_at rules (pc line)) core).next
@@ -175,16 +182,33 @@ module _ (core queue counts threads : List ℕ) (rules : Rules) (head length' : 
   abbrev writes : ℕ
   writes = length (written_at (site_at rules (pc line)) core)
 
-  pub executes : {x : Executed} {r : Stepped} {core' queue' counts' threads' : List ℕ} → (x ≡ answered next writes) × (core' ≡ core_at (site_at rules (pc line)) core) → Requeued line x r queue' counts' threads' → (steps : ℕ) (names : Roster)
-      → given (told r.answer) r.writes 1 (parts core' queue' rules (ring_of r.head r.length) (steps + 1) names counts' threads')
-      ≡ given_by (executed (parts core queue rules (ring_of head length') steps names counts threads))
+  pub executes : {x : Executed} {r : Stepped} {core' queue' : List ℕ} {p' : Processes} → (x ≡ answered next writes) × (core' ≡ core_at (site_at rules (pc line)) core)
+      → Requeued (queue_of queue later) x r (queue_of queue' p') → (names : Roster)
+      → given (told r.answer) r.writes 1 (parts core' queue' rules names p') ≡ given_by (executed (parts core queue rules names p))
   unfolding executed effect step_written spec.core_after counted pop
-  executes e q steps names =
-      (λ i. given (q.answer i) (q.writes i) 1 (within (e.1 i) rules (steps + 1) names (q.machine i)))
+  executes e q names =
+      (λ i. given (q.answer i) (q.writes i) 1 (within (e.1 i) rules names (q.machine i)))
       ∙ ap₂ (λ (n : Next) (w : ℕ). by n w) (ap next_of e.0 ∙ next-is next writes) (ap writes_of e.0 ∙ writes_are next writes)
       ∙ sym (ap (λ (k : Queued). given (next_told next (get_or (pop line).header.counts (popped line).name 0) (pc line)) writes 1 k.machine)
-      (queued-within (core_at (site_at rules (pc line)) core) rules (steps + 1) names next (popped line) (pop line)))
+      (queued-within (core_at (site_at rules (pc line)) core) rules names next (popped line) (pop (queue_of queue later))))
     where
       by : Next → ℕ → Given
       by n w = given (next_told n (get_or (pop line).header.counts (popped line).name 0) (pc line)) w 1
-          (within (core_at (site_at rules (pc line)) core) rules (steps + 1) names (queued n (popped line) (pop line)).machine)
+          (within (core_at (site_at rules (pc line)) core) rules names (queued n (popped line) (pop (queue_of queue later))).machine)
+
+-- the front entry stays as it is when the step is counted
+pub counted-front : {queue : List ℕ} {p : Processes} {tail : ℕ} → Front (queue_of queue p) tail
+    → Front (queue_of queue (record { ring = p.ring; steps = p.steps + 1; counts = p.counts; threads = p.threads })) tail
+counted-front f =
+    record {
+      slots = f.slots;
+      head = f.head;
+      some = f.some;
+      limit = f.limit;
+      behind = f.behind;
+      upper = f.upper;
+      sixteen = f.sixteen;
+      count = f.count;
+      counted = f.counted;
+      number = f.number;
+    }

@@ -6,17 +6,19 @@ use mathlib.Core.List.{List}
 use mathlib.Core.Option.{Option, none, some}
 use Prim.Native.Nat.{ℕ, ◌+◌, ◌^◌, ◌≤◌, ◌<◌}
 use native.Mathlib.Omega.{arith}
-use lib.ListN.{length, get_or}
+use lib.ListN.{length, get_or, set}
+use lib.Seq.{set-get_or}
 use Rattle.laws.proofs.Tests.{both}
 use Rattle.laws.proofs.Every.{every-join}
 use Rattle.cell.specs.declared.Cell.{Cell}
 use Rattle.cell.specs.Cells.{unpacked, sound_word, cell_at}
 use Rattle.cell.proofs.Soundness.{Sound, sound-fields}
 use Rattle.machine.specs.declared.Rules.{Rules}
-use Rattle.machine.specs.Pointers as machine
+use Rattle.machine.specs.Execution as machine
+use Rattle.machine.specs.Pointers as pointers
 use Rattle.machine.specs.Pointers.{Shift, shifts, keeps, lowers, raises, shifted, Site, site_at}
 use Rattle.machine.specs.Instruction.{fetched, a_operand, b_operand, scene_at, effect_at, core_at, store_to, stored_at, written_at}
-use Rattle.machine.specs.Execution.{dat, divisor, Next, ends, goes, splits, Effect, Scene, effect_of}
+use Rattle.machine.specs.Execution.{dat, divisor, Next, ends, goes, splits, Effect, effect_of}
 use Rattle.machine.proofs.Pointers.{length-operand}
 use Rattle.machine.proofs.Execution.{Places, effect-sound}
 use Rattle.machine.proofs.Step.{writes_at}
@@ -26,13 +28,19 @@ use Rattle.chain.specs.Operands.{absolute, compares, operands_at}
 use Rattle.steps.specs.declared.opcode.Executed.{Executed}
 use Rattle.steps.specs.Inner.Instruction.{Executable, answered}
 use Rattle.steps.specs.Inner.Queueing.{Near}
-use Rattle.steps.specs.Inner.Acts.{scene_of, store_writes, Does, SoundScene}
+use Rattle.steps.specs.Inner.Scenes.{SoundScene}
+use Rattle.steps.specs.Inner.Acts.{store_writes, over}
 use Rattle.steps.proofs.Seen.{register-whole, writes_are, read_below, write-below, register-sound, sound-after, live-sound, target_sound}
 use Rattle.steps.proofs.Meeting.{one_cell, one_store}
 
 stored-writes : (c : Option Cell) (place : ℕ) → length (stored_at c place) ≡ store_writes c
 stored-writes none place = refl
 stored-writes (some c) place = refl
+
+-- the target's word stored over itself, or over with the cell stored
+over-store : (c : Option Cell) (core : List ℕ) (place : ℕ) → set core place (over c (get_or core place 0)) ≡ store_to c core place
+over-store none core place = set-get_or core place 0
+over-store (some c) core place = refl
 
 -- an operand's mode makes one write or none
 one-change : (t : Shift) → length (shifted t 0) ≤ 1
@@ -60,10 +68,10 @@ module _ (rules : Rules) (core : List ℕ) (pc here : ℕ) (x : Executable rules
   abbrev f : Fetched rules core pc here
   f = x.cell
 
-  abbrev first : machine.Operand
+  abbrev first : pointers.Operand
   first = a_operand s core
 
-  abbrev last : machine.Operand
+  abbrev last : pointers.Operand
   last = b_operand s core
 
   -- where B meets the instruction
@@ -138,6 +146,12 @@ module _ (rules : Rules) (core : List ℕ) (pc here : ℕ) (x : Executable rules
     jump-is : o.jump.0 ≡ first.read
     jump-is = ap (λ (p : Operands). p.jump.0) go.0
 
+    pub target-inside : o.target.0 < length c2
+    target-inside = rw (go.1, target_is, length-operand s first.core _ _, long-a) (met-below (compares (fetched core pc).opcode))
+
+    pub target-sound : sound_word size (get_or c2 o.target.0 0) ≡ true
+    target-sound = rw (go.1, target_is) (met-sound (compares (fetched core pc).opcode))
+
     module _ {am bm wa wb : ℕ} (ea : am ≡ (unpacked here).a_mode) (eb : bm ≡ (unpacked here).b_mode) (ua : wa ≡ length (shifted (get_or shifts am keeps) 0))
         (ub : wb ≡ length (shifted (get_or shifts bm keeps) 0)) where
       wa-is : wa ≡ length first.written
@@ -146,25 +160,18 @@ module _ (rules : Rules) (core : List ℕ) (pc here : ℕ) (x : Executable rules
       wb-is : wb ≡ length last.written
       wb-is = ub ∙ rw (eb, f.is) (writes_are rules first.core pc (fetched core pc).b_mode (fetched first.core pc).b.0)
 
-      -- what the execution asks
-      pub ready : SoundScene size c2 (unpacked here).modifier pc o.target.0 o.ra o.rb (wa + wb) × ((unpacked here).opcode ≤ 16) × (here < 2 ^ 46)
-      ready =
+      -- what holds of the scene, and of the target
+      pub scene-sound : SoundScene size (unpacked here).modifier pc o.ra o.rb (wa + wb)
+      scene-sound =
           let few = few-changes am bm ua ub in
-          rw (go.1, target_is, ra-is, rb-is) (
-            record {
-              valid = f.valid;
-              cells = length-operand s first.core _ _ ∙ long-a;
-              row = (sound-fields size here f.sound).1.modifier;
-              place = f.place;
-              below = met-below (compares (fetched core pc).opcode);
-              live = met-sound (compares (fetched core pc).opcode);
-              sound_a = register-a;
-              sound_b = register-b;
-              few = few;
-            },
-            x.few,
-            (sound-fields size here f.sound).0,
-          )
+          rw (ra-is, rb-is) (record {
+            valid = f.valid;
+            row = (sound-fields size here f.sound).1.modifier;
+            place = f.place;
+            sound_a = register-a;
+            sound_b = register-b;
+            few = few;
+          })
 
       writes-sum : length (written_at s core) ≡ wa + wb + store_writes (effect_at s core).cell
       writes-sum =
@@ -174,8 +181,18 @@ module _ (rules : Rules) (core : List ℕ) (pc here : ℕ) (x : Executable rules
           omega (arith, writes_at s core)
 
       -- the code's scene has one cell for the live one and the target
-      abbrev coded : Scene
-      coded = scene_of size (unpacked here).modifier pc o.jump.0 o.ra o.rb (get_or c2 o.target.0 0)
+      abbrev coded : machine.Scene
+      coded =
+          record {
+            size = size;
+            modifier = (unpacked here).modifier;
+            pc = pc;
+            jump = o.jump.0;
+            ra = unpacked o.ra;
+            rb = unpacked o.rb;
+            live = unpacked (get_or c2 o.target.0 0);
+            target = unpacked (get_or c2 o.target.0 0);
+          }
 
       cell-is : (t : Bool) → cell_at last.core (cond t last.read last.write) ≡ cond t (cell_at last.core last.read) (cell_at last.core last.write)
       cell-is true = refl
@@ -206,11 +223,17 @@ module _ (rules : Rules) (core : List ℕ) (pc here : ℕ) (x : Executable rules
           one_store size (fetched core pc).modifier pc first.read first.register last.register
           (cell_at last.core last.read) (cell_at last.core last.write) last.core last.read last.write (fetched core pc).opcode few-opcodes
 
-      pub done : (r : Executed) (l : List ℕ) → Does (unpacked here).opcode coded c2 o.target.0 (wa + wb) r l
-          → (r ≡ answered (effect_at s core).next (length (written_at s core))) × (l ≡ core_at s core)
-      done r l d =
-          let k : Does (fetched core pc).opcode coded c2 o.target.0 (wa + wb) r l
-          = subst (λ (w : ℕ). Does (unpacked w).opcode coded c2 o.target.0 (wa + wb) r l) f.is d in (
-            k.0 ∙ ap (λ (e : Effect). answered e.next (wa + wb + store_writes e.cell)) effect_is ∙ ap (answered (effect_at s core).next) (sym writes-sum),
-            k.1 ∙ ap (λ (e : Effect). store_to e.cell c2 o.target.0) effect_is ∙ rw (go.1, target_is) store_is,
+      pub done : {m : machine.Scene} → (m.size ≡ size) × (m.modifier ≡ (unpacked here).modifier) × (m.pc ≡ pc) × (m.jump ≡ o.jump.0) × (m.ra ≡ unpacked o.ra)
+          × (m.rb ≡ unpacked o.rb) × (m.live ≡ unpacked (get_or c2 o.target.0 0)) × (m.target ≡ unpacked (get_or c2 o.target.0 0))
+          → {op : ℕ} → op ≡ (unpacked here).opcode → (r : Executed) (v : ℕ)
+          → (r ≡ answered (effect_of op m).next (wa + wb + store_writes (effect_of op m).cell)) × (v ≡ over (effect_of op m).cell (get_or c2 o.target.0 0))
+          → (r ≡ answered (effect_at s core).next (length (written_at s core))) × (set c2 o.target.0 v ≡ core_at s core)
+      done {m = m} g eo r v d =
+          let is : m ≡ coded
+          = λ i. record { size = g.0 i; modifier = g.1 i; pc = g.2 i; jump = g.3 i; ra = g.4 i; rb = g.5 i; live = g.6 i; target = g.7 i } in
+          let e : effect_of _ m ≡ effect_at s core
+          = (λ i. effect_of ((eo ∙ ap (λ (w : ℕ). (unpacked w).opcode) f.is) i) (is i)) ∙ effect_is in (
+            d.0 ∙ (λ i. answered (e i).next (wa + wb + store_writes (e i).cell)) ∙ ap (answered (effect_at s core).next) (sym writes-sum),
+            ap (set c2 o.target.0) (d.1 ∙ ap (λ (x : Effect). over x.cell (get_or c2 o.target.0 0)) e)
+                ∙ over-store (effect_at s core).cell c2 o.target.0 ∙ rw (go.1, target_is) store_is,
           )

@@ -1,15 +1,18 @@
 -- What is left to play gives what the whole run gives.
 -- Assumes nothing.
 use mathlib.Core.Path.{◌≡◌, refl, sym, ap, ap₂, ◌∙◌, subst}
-use mathlib.Core.Bool.{Bool, true, false, cond}
+use mathlib.Core.Bool.{Bool, true, false, not, cond}
 use Prim.Native.Nat.{ℕ, zero, suc, ◌+◌, ◌-◌, ◌*◌, ◌≤◌}
 use native.Mathlib.Nat.{add-zero, zero-add, add_assoc}
 use native.Mathlib.Omega.{arith}
 use lib.Dec.{eqb}
 use borrow.Author.Tests.{eqb-true, eqb-false}
-use Rattle.answer.specs.Numbers.{Answer, gives, Told, told}
+use Rattle.std.specs.Prelude.{Result, Ok, Err}
+use Rattle.std.specs.Result.{is_err}
+use Rattle.answer.specs.declared.Error.{Error}
+use Rattle.answer.specs.declared.Error.TheVariants.{InvalidCoreSize, InvalidMemory, WarriorTooLong, InvalidCode, InvalidNameOrPlace, NoRoom, NoRemainingProcesses, NumbersExhausted, UnsoundRecord, PrivateMemory, ExecuteDat, DivideByZero, Malformed, InvalidLimit}
+use Rattle.answer.specs.Numbers.{Told, told, told_error}
 use Rattle.laws.specs.Lists.{one_if}
-use Rattle.machine.specs.declared.Processes.{Processes}
 use Rattle.machine.specs.State.{Machine, Outcome, told_by, joined, and_then}
 use Rattle.machine.specs.Step.{step, executed, executes}
 use Rattle.machine.proofs.Step.{step-by-cases, step_counts, step_value, step-writes-three}
@@ -17,6 +20,9 @@ use Rattle.lent.specs.Given.{Given, given, given_by}
 use Rattle.steps.specs.declared.Ran.{Ran}
 use Rattle.steps.specs.Inner.Ready.{Ready, step_of, plays_of, ran_of}
 use Rattle.steps.proofs.Naming.{naming, letters, ones, lettered, named, step-named, named-sound, unnamed-ready, sound-ready}
+
+abbrev Answer : Type 0
+Answer = Result (Unit {0}) Error
 
 -- what is known of up to k steps of a machine that is ready
 pub record Counted (k : ℕ) (m : Machine) (o : Outcome) : Type 0 where
@@ -44,7 +50,7 @@ module _ (m : Machine) (r : Ready m) where
         λ z. (c.1 ∙ ap (λ (k : ℕ). one_if (executes k)) z, step_value plain z),
       )
 
-  step-counted : Counted 1 m (step_of m)
+  pub step-counted : Counted 1 m (step_of m)
   step-counted =
       let f : Facts (named letters ones (step_of m)) = subst Facts one step-facts in
       record {
@@ -157,10 +163,10 @@ module _ {ceiling : ℕ} {start m : Machine} {w : ℕ} (g : Going ceiling start 
   abbrev steps : ℕ
   steps = m.header.steps - start.header.steps
 
-  pub over : ceiling ≤ m.header.steps → given (gives 0 0) w steps m ≡ given_by (plays_of (ceiling - start.header.steps) start)
+  pub over : ceiling ≤ m.header.steps → given (told {A = Unit {0}} (Ok tt)) w steps m ≡ given_by (plays_of (ceiling - start.header.steps) start)
   unfolding plays_of
   over h =
-      ap₂ (λ (i j : ℕ). given (gives 0 0) i j m) (sym (add-zero w)) (sym (add-zero steps))
+      ap₂ (λ (i j : ℕ). given (told {A = Unit {0}} (Ok tt)) i j m) (sym (add-zero w)) (sym (add-zero steps))
       ∙ ap (λ (k : ℕ). after w steps (plays_of k m)) (none h)
       ∙ g.same
     where
@@ -237,11 +243,33 @@ module _ {ceiling : ℕ} {start m : Machine} {w : ℕ} (g : Going ceiling start 
           }
 
 -- what a run gives back, put together with the parts that it leaves
-pub giving : (m : Machine) (b t : ℕ) {r : Ran} {answer : Answer} {w : ℕ} {X : Given} → r ≡ ran_of answer w b t
+pub giving : (b t : ℕ) {r : Ran} {answer : Answer} {w : ℕ} {m : Machine} {X : Given} → r ≡ ran_of answer w b t
     → given (told answer) w (t - b) m ≡ X → given (told r.answer) r.writes r.steps m ≡ X
-giving m b t e x = ap (λ (s : Ran). given (told s.answer) s.writes s.steps m) e ∙ x
+giving b t {m = m} e x = ap (λ (s : Ran). given (told s.answer) s.writes s.steps m) e ∙ x
 
--- and with the processes that are put back
-pub leaving : (build : Processes → Machine) (b t : ℕ) {r : Ran} {answer : Answer} {w : ℕ} {p q : Processes} {X : Given} → (r ≡ ran_of answer w b t) × (p ≡ q)
-    → given (told answer) w (t - b) (build q) ≡ X → given (told r.answer) r.writes r.steps (build p) ≡ X
-leaving build b t {r} {q = q} e x = ap (λ (p : Processes). given (told r.answer) r.writes r.steps (build p)) e.1 ∙ giving (build q) b t e.0 x
+-- an answer is 0 where it is no error
+number-is : (a : Answer) → eqb (told a).number 0 ≡ not (is_err a)
+number-is (Ok x) = refl
+number-is (Err e) = by e
+  where
+    by : (e : Error) → eqb (told_error e).number 0 ≡ false
+    by InvalidCoreSize = refl
+    by InvalidMemory = refl
+    by WarriorTooLong = refl
+    by (InvalidCode i) = refl
+    by InvalidNameOrPlace = refl
+    by NoRoom = refl
+    by NoRemainingProcesses = refl
+    by NumbersExhausted = refl
+    by UnsoundRecord = refl
+    by PrivateMemory = refl
+    by (ExecuteDat p) = refl
+    by DivideByZero = refl
+    by (Malformed p) = refl
+    by InvalidLimit = refl
+
+pub failed : (a : Answer) → is_err a ≡ true → eqb (told a).number 0 ≡ false
+failed a e = number-is a ∙ ap not e
+
+pub went : (a : Answer) → is_err a ≡ false → eqb (told a).number 0 ≡ true
+went a e = number-is a ∙ ap not e

@@ -26,15 +26,14 @@ use Rattle.machine.proofs.Names.{Shape}
 use Rattle.machine.proofs.Soundness.{SoundHeader, is-taken, takes, tested, sound-header, header-sound}
 use Rattle.machine.proofs.Step.{step-sound}
 use Rattle.machine.proofs.Run.{run-plays}
-use Rattle.lent.specs.Parts.{names_of}
-use Rattle.steps.specs.Inner.Apart.{parts}
+use Rattle.lent.specs.Parts.{names_of, processes_of, parts}
 use Rattle.steps.specs.Inner.Ready.{Ready, step_of, plays_of}
 
 -- the same machine with names, as many
 abbrev pub naming : List ℕ → List ℕ → Machine → Machine
 naming bytes lengths m =
     let h = m.header in
-    parts m.core m.queue h.rules h.ring h.steps (names_of h.names.held bytes lengths) h.counts h.threads
+    parts m.core m.queue h.rules (names_of h.names.held bytes lengths) (processes_of h)
 
 -- a sound header, with arrays of their lengths
 pub record Sound (m : Machine) : Type 0 where
@@ -134,22 +133,22 @@ module _ (m : Machine) where
   all_sound : SoundHeader m → Sound m
   all_sound s = let t = s.shape in record { header = header-sound m s; names = t.names; lengths = t.lengths; counts = t.counts; threads = t.threads }
 
--- a queue's machine in another: the memories, rules, steps taken and names of that one
-abbrev pub within : List ℕ → Rules → ℕ → Roster → Machine → Machine
-within core rules steps names m = parts core m.queue rules m.header.ring steps names m.header.counts m.header.threads
+-- a queue's machine with another core, and with other rules and names
+abbrev pub within : List ℕ → Rules → Roster → Machine → Machine
+within core rules names m = parts core m.queue rules names (processes_of m.header)
 
 -- pushes look at the queue only
-pub queued-within : (core : List ℕ) (rules : Rules) (steps : ℕ) (names : Roster) (x : Next) (e : Entry) (m : Machine)
-    → queued x e (within core rules steps names m) ≡ record { machine = within core rules steps names (queued x e m).machine; pushes = (queued x e m).pushes }
+pub queued-within : (core : List ℕ) (rules : Rules) (names : Roster) (x : Next) (e : Entry) (m : Machine)
+    → queued x e (within core rules names m) ≡ record { machine = within core rules names (queued x e m).machine; pushes = (queued x e m).pushes }
 unfolding push started numbered
-queued-within core rules steps names (ends x) e m = refl
-queued-within core rules steps names (goes p) e m = refl
-queued-within core rules steps names (splits p c) e m = either (full (push (entry p e.thread e.name) m) e.name)
+queued-within core rules names (ends x) e m = refl
+queued-within core rules names (goes p) e m = refl
+queued-within core rules names (splits p c) e m = either (full (push (entry p e.thread e.name) m) e.name)
   where
-    either : (b : Bool) → cond {A = Queued} b (record { machine = push (entry p e.thread e.name) (within core rules steps names m); pushes = 1 })
-        (record { machine = started c e.name (push (entry p e.thread e.name) (within core rules steps names m)); pushes = 2 })
+    either : (b : Bool) → cond {A = Queued} b (record { machine = push (entry p e.thread e.name) (within core rules names m); pushes = 1 })
+        (record { machine = started c e.name (push (entry p e.thread e.name) (within core rules names m)); pushes = 2 })
         ≡ record {
-          machine = within core rules steps names (cond {A = Queued} b (record { machine = push (entry p e.thread e.name) m; pushes = 1 })
+          machine = within core rules names (cond {A = Queued} b (record { machine = push (entry p e.thread e.name) m; pushes = 1 })
               (record { machine = started c e.name (push (entry p e.thread e.name) m); pushes = 2 })).machine;
           pushes = (cond {A = Queued} b (record { machine = push (entry p e.thread e.name) m; pushes = 1 })
               (record { machine = started c e.name (push (entry p e.thread e.name) m); pushes = 2 })).pushes;
@@ -164,8 +163,8 @@ module _ (bytes lengths : List ℕ) where
 
   executed-named : (m : Machine) → executed (naming bytes lengths m) ≡ named (executed m)
   unfolding executed effect core_after step_written counted pop
-  executed-named m = ap put (queued-within (core_after m) m.header.rules (m.header.steps + 1) (names_of m.header.names.held bytes lengths) (effect m).next (popped m) (pop m))
-      ∙ sym (ap (λ (q : Queued). named (put q)) (queued-within (core_after m) m.header.rules (m.header.steps + 1) m.header.names (effect m).next (popped m) (pop m)))
+  executed-named m = ap put (queued-within (core_after m) m.header.rules (names_of m.header.names.held bytes lengths) (effect m).next (popped m) (counted (core_after m) (pop m)))
+      ∙ sym (ap (λ (q : Queued). named (put q)) (queued-within (core_after m) m.header.rules m.header.names (effect m).next (popped m) (counted (core_after m) (pop m))))
     where
       put : Queued → Outcome
       put q = record { machine = q.machine; number = (executed m).number; value = (executed m).value; writes = (executed m).writes; steps = 1; pushes = q.pushes }

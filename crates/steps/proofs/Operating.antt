@@ -3,13 +3,13 @@
 use mathlib.Core.Path.{◌≡◌, sym, ap, ap₂, ◌∙◌}
 use mathlib.Core.Bool.{true}
 use mathlib.Core.List.{List}
-use mathlib.Core.Logic.{inl, inr}
+
 use Prim.Native.Nat.{ℕ, ◌^◌, ◌≤◌, ◌<◌}
 use native.Mathlib.Omega.{arith}
 use lib.ListN.{get_or, set}
 use Rattle.offset.specs.declared.Absolute.{Absolute}
 use Rattle.offset.specs.Offset.{ahead}
-use Rattle.types.specs.Types.{Field, A, B, first_bit}
+use Rattle.types.specs.Types.{Field}
 use Rattle.cell.specs.Cells.{packed, unpacked, sound_word, number, with_number}
 use Rattle.cell.proofs.Soundness.{sound-fields}
 use Rattle.word.proofs.Cells.{ahead-below, number-below}
@@ -22,7 +22,6 @@ use Rattle.address.specs.Inner.Operands.{sound_seen, Ready}
 use Rattle.address.proofs.Pointing as law
 use Rattle.steps.specs.declared.operand.Operand.{Operand}
 use Rattle.steps.specs.Inner.Instruction.{operand_of}
-use Rattle.steps.specs.Inner.Acts.{FirstBit}
 
 -- the number that a pointer is made of, and one more, fit a field
 aimed-small : (t : Shift) (size n : ℕ) → n < size → size ≤ 46341 → aimed t size n < 65536
@@ -32,11 +31,6 @@ aimed-small raises size n h l = omega arith
 
 raised-small : (size n : ℕ) → n < size → size ≤ 46341 → incremented size n < 65536
 raised-small size n h l = let k : more size n < size = ahead-below _ _ h in rw (law.is-more size n h) (omega arith)
-
--- the first bit of a field is one
-pub first_bit_lem : (f : Field) {bit : ℕ} → bit ≡ first_bit f → FirstBit bit
-first_bit_lem A e = inr e
-first_bit_lem B e = inl e
 
 module _ (rules : Rules) (core : List ℕ) (pc mode n : ℕ) where
   abbrev its : machine.Operand

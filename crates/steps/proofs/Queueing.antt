@@ -4,17 +4,20 @@ use Rattle.std.specs.Prelude.{Ok}
 use mathlib.Core.Path.{◌≡◌, refl, sym, ap, ap₂, ◌∙◌}
 use mathlib.Core.Bool.{Bool, true, false, cond}
 use mathlib.Core.List.{List}
-use Prim.Native.Nat.{ℕ, ◌+◌, ◌-◌, ◌%◌, ◌<◌}
+use Prim.Native.Nat.{ℕ, ◌+◌, ◌-◌, ◌%◌, ◌≤◌, ◌<◌}
 use native.Mathlib.Nat.{mod-add-mod}
 use native.Mathlib.Omega.{arith}
 use lib.Dec.{eqb}
 use lib.ListN.{length, get_or, set, length-set}
 use lib.Seq.{get_or-set_same, set-set, set-get_or}
 use borrow.Author.Tests.{lt-leb}
-use Rattle.answer.specs.Numbers.{Answer, told, gives}
+use Rattle.std.specs.Prelude.{Result, Ok}
+use Rattle.answer.specs.declared.Error.{Error}
+use Rattle.answer.specs.Numbers.{told, gives}
 use Rattle.offset.specs.declared.Absolute.{Absolute}
 use Rattle.offset.specs.Offset.{ahead}
 use Rattle.machine.specs.declared.Entry.{Entry}
+use Rattle.machine.specs.declared.Processes.{Processes}
 use Rattle.machine.specs.State.{Machine}
 use Rattle.machine.specs.Names.{numbered}
 use Rattle.machine.specs.Queue.{packed_entry, unpacked_entry, entry, full, pop, push, started}
@@ -24,10 +27,17 @@ use Rattle.steps.specs.Inner.Apart.{queue_of}
 use Rattle.steps.specs.declared.opcode.Executed.{Executed}
 use Rattle.steps.specs.declared.opcode.Executed.TheVariants.{Goes, Splits}
 use Rattle.steps.specs.declared.ring.Stepped.{Stepped}
-use Rattle.steps.specs.Inner.Queueing.{ring_of, Front, next_of, writes_of, Requeued}
+use Rattle.steps.specs.Inner.Queueing.{ring_of, tail_of, Front, next_of, writes_of, ended, Requeued}
 
-abbrev pub stepped : Answer → ℕ → ℕ → ℕ → ℕ → Stepped
-stepped answer writes head tail length = record { answer = answer; writes = writes; head = head; tail = tail; length = length }
+abbrev Answer : Type 0
+Answer = Result (Unit {0}) Error
+
+abbrev pub stepped : Answer → ℕ → ℕ → Stepped
+stepped answer writes tail = record { answer = answer; writes = writes; tail = tail }
+
+-- the processes with another head
+abbrev pub onward : ℕ → Processes → Processes
+onward head p = record { ring = ring_of head p.ring.length; steps = p.steps; counts = p.counts; threads = p.threads }
 
 -- a count lowered and raised again
 lower-raise : (l : List ℕ) (n : ℕ) → n < length l → 0 < get_or l n 0 → l ≡ set (set l n (get_or l n 0 - 1)) n (get_or (set l n (get_or l n 0 - 1)) n 0 + 1)
@@ -52,32 +62,36 @@ one_on h l m = mod-add-mod (h + l) m 1 ∙ ap (λ (k : ℕ). k % m) (sum h l) �
     sum h l = omega arith
 
 -- a process started, or dropped where there is no room
-module _ (queue counts threads : List ℕ) (head length' place name : ℕ) where
+module _ (queue : List ℕ) (p : Processes) (place name : ℕ) where
   abbrev lent : Machine
-  lent = queue_of queue (ring_of head length') counts threads
+  lent = queue_of queue p
 
-  abbrev grown : Machine
+  abbrev pub grown : Machine
   grown = cond (full lent name) lent (started place name lent)
 
-  pub starts : {tail v n : ℕ} {q : List ℕ} → length' < length queue → tail ≡ ahead (length queue) head length' → v ≡ packed_entry (entry place (get_or threads name 0) name) → q ≡ set queue tail v → n ≡ get_or threads name 0 + 1
-      → queue_of q (ring_of head (length' + 1)) (set counts name (get_or counts name 0 + 1)) (set threads name n) ≡ grown
+  pub starts : {tail v : ℕ} {q : List ℕ} → p.ring.length < length queue → tail ≡ tail_of lent → v ≡ packed_entry (entry place (get_or p.threads name 0) name) → q ≡ set queue tail v
+      → queue_of q
+      (record { ring = ring_of p.ring.head (p.ring.length + 1); steps = p.steps; counts = set p.counts name (get_or p.counts name 0 + 1); threads = set p.threads name (get_or p.threads name 0 + 1) })
+      ≡ grown
   unfolding started push numbered
-  starts h t e f g =
-      ap₂ (λ (q : List ℕ) (k : ℕ). queue_of q (ring_of head (length' + 1)) (set counts name (get_or counts name 0 + 1)) (set threads name k)) f g
-      ∙ (λ i. queue_of (set queue (t i) (e i)) (ring_of head (length' + 1)) (set counts name (get_or counts name 0 + 1)) (set threads name (get_or threads name 0 + 1)))
+  starts h t e f =
+      ap (λ (q : List ℕ). queue_of q (record { ring = ring_of p.ring.head (p.ring.length + 1); steps = p.steps; counts = set p.counts name (get_or p.counts name 0 + 1); threads = set p.threads name (get_or p.threads name 0 + 1) })) f
+      ∙ (λ i. queue_of (set queue (t i) (e i))
+      (record { ring = ring_of p.ring.head (p.ring.length + 1); steps = p.steps; counts = set p.counts name (get_or p.counts name 0 + 1); threads = set p.threads name (get_or p.threads name 0 + 1) }))
       ∙ sym (ap (λ (b : Bool). cond b lent (started place name lent)) (lt-leb _ _ h))
 
-  pub started-tail : {tail t : ℕ} → tail ≡ ahead (length queue) head length' → t ≡ ahead (length queue) tail 1 → t ≡ ahead (length queue) head (length' + 1)
-  started-tail e f =
-      f ∙ ap (λ (k : ℕ). ahead (length queue) k 1) e ∙ mod-add-mod (head + length') (length queue) 1 ∙ ap (λ (k : ℕ). k % length queue) (sum head length')
+  pub started-tail : (v : ℕ) {tail t : ℕ} {q : List ℕ} → tail ≡ tail_of lent → q ≡ set queue tail v → t ≡ ahead (length queue) tail 1 → t ≡ ahead (length q) p.ring.head (p.ring.length + 1)
+  started-tail v e g f =
+      f ∙ ap (λ (k : ℕ). ahead (length queue) k 1) e ∙ mod-add-mod (p.ring.head + p.ring.length) (length queue) 1 ∙ ap (λ (k : ℕ). k % length queue) (sum p.ring.head p.ring.length)
+      ∙ ap (λ (k : ℕ). ahead k p.ring.head (p.ring.length + 1)) (sym (ap length g ∙ length-set queue _ v))
     where
       sum : (h l : ℕ) → h + l + 1 ≡ h + (l + 1)
       sum h l = omega arith
 
 -- a queue with its front entry
-module _ {queue counts threads : List ℕ} {head length' tail : ℕ} (f : Front (queue_of queue (ring_of head length') counts threads) tail) where
+module _ {queue : List ℕ} {p : Processes} {tail : ℕ} (f : Front (queue_of queue p) tail) where
   abbrev line : Machine
-  line = queue_of queue (ring_of head length') counts threads
+  line = queue_of queue p
 
   abbrev name : ℕ
   name = (popped line).name
@@ -85,56 +99,69 @@ module _ {queue counts threads : List ℕ} {head length' tail : ℕ} (f : Front 
   name-lt : name < 16
   name-lt = omega arith
 
+  -- the head one on
+  abbrev pub next-head : ℕ
+  next-head = ahead (length queue) p.ring.head 1
+
   -- the front entry pushed at another place
   abbrev moved : ℕ → List ℕ
   moved next = set queue tail (packed_entry (entry next (popped line).thread name))
 
-  pushed-is : (next : ℕ) → queue_of (moved next) (ring_of (ahead (length queue) head 1) length') counts threads ≡ push (entry next (popped line).thread name) (pop line)
+  pushed-is : (next : ℕ) → queue_of (moved next) (onward next-head p) ≡ push (entry next (popped line).thread name) (pop line)
   unfolding push pop
   pushed-is next = λ i.
-      queue_of (set queue ((f.behind ∙ slot_is head length' (length queue) f.some) i) (packed_entry (entry next (popped line).thread name)))
-      (ring_of (ahead (length queue) head 1) (longer i)) (lower-raise counts name (omega (arith, name-lt, f.sixteen)) f.count i) threads
+      queue_of (set queue ((f.behind ∙ slot_is p.ring.head p.ring.length (length queue) f.some) i) (packed_entry (entry next (popped line).thread name)))
+      (record { ring = ring_of next-head (longer i); steps = p.steps; counts = lower-raise p.counts name (omega (arith, name-lt, f.sixteen)) f.count i; threads = p.threads })
     where
-      longer : length' ≡ length' - 1 + 1
+      longer : p.ring.length ≡ p.ring.length - 1 + 1
       longer = omega (arith, f.some)
 
-  pub moved-is : (next : ℕ) {v w : ℕ} → w ≡ get_or queue head 0 → v ≡ packed_entry (entry next (unpacked_entry w).thread (unpacked_entry w).name) → set queue tail v ≡ moved next
+  pub moved-is : (next : ℕ) {v w : ℕ} → w ≡ get_or queue p.ring.head 0 → v ≡ packed_entry (entry next (unpacked_entry w).thread (unpacked_entry w).name) → set queue tail v ≡ moved next
   moved-is next e f = ap (set queue tail) (f ∙ ap (λ (w : ℕ). packed_entry (entry next (unpacked_entry w).thread (unpacked_entry w).name)) e)
 
-  pushed : (next : ℕ) {h : ℕ} {q : List ℕ} → h ≡ ahead (length queue) head 1 → q ≡ moved next → queue_of q (ring_of h length') counts threads ≡ push (entry next (popped line).thread name) (pop line)
-  pushed next eh eq = (λ i. queue_of (eq i) (ring_of (eh i) length') counts threads) ∙ pushed-is next
+  pushed : (next : ℕ) {h : ℕ} {q : List ℕ} → h ≡ next-head → q ≡ moved next → queue_of q (onward h p) ≡ push (entry next (popped line).thread name) (pop line)
+  pushed next eh eq = (λ i. queue_of (eq i) (onward (eh i) p)) ∙ pushed-is next
 
   -- the tail after one push
-  tail-on : {h t : ℕ} → h ≡ ahead (length queue) head 1 → t ≡ ahead (length queue) tail 1 → t ≡ ahead (length queue) h length'
-  tail-on eh et =
-      et ∙ ap (λ (k : ℕ). ahead (length queue) k 1) f.behind ∙ one_on head length' (length queue) ∙ ap (λ (k : ℕ). ahead (length queue) k length') (sym eh)
+  pub tail-on : (v : ℕ) {h t : ℕ} {q : List ℕ} → h ≡ next-head → t ≡ ahead (length queue) tail 1 → q ≡ set queue tail v → t ≡ ahead (length q) h p.ring.length
+  tail-on v {h = h} eh et eq =
+      et ∙ ap (λ (k : ℕ). ahead (length queue) k 1) f.behind ∙ one_on p.ring.head p.ring.length (length queue) ∙ ap (λ (k : ℕ). ahead (length queue) k p.ring.length) (sym eh)
+      ∙ ap (λ (k : ℕ). ahead k h p.ring.length) (sym (ap length eq ∙ length-set queue tail v))
 
-  pub pushed-tail : (v : ℕ) {h t : ℕ} {q : List ℕ} → h ≡ ahead (length queue) head 1 → (t ≡ ahead (length queue) tail 1) × (q ≡ set queue tail v) → t ≡ ahead (length q) h length'
-  pushed-tail v {h = h} eh p = tail-on eh p.0 ∙ ap (λ (k : ℕ). ahead k h length') (sym (ap length p.1 ∙ length-set queue tail v))
+  -- what a child started then asks
+  pub child-asks : (v : ℕ) {h t : ℕ} {q : List ℕ} {e : Entry} → h ≡ next-head → (t ≡ ahead (length queue) tail 1) × (q ≡ set queue tail v) → e ≡ popped line
+      → (length q ≤ 65535) × (t ≡ tail_of (queue_of q (onward h p))) × (e.name < 16) × (get_or p.threads e.name 0 ≡ 4294967295 → ⊥) × (get_or p.counts e.name 0 < 4294967295)
+  child-asks v eh g ee =
+      let few = f.slots in
+      let counted = f.counted in (
+        rw (g.1, length-set queue tail v) few,
+        tail-on v eh g.0 g.1,
+        rw ee name-lt,
+        rw ee f.number,
+        rw ee (omega arith),
+      )
 
   module _ {x : Executed} where
-    pub goes_on : {next : Absolute} {wr h t : ℕ} {q : List ℕ} → x ≡ Goes next wr → h ≡ ahead (length queue) head 1 → t ≡ ahead (length queue) tail 1
-        → q ≡ moved next.0 → Requeued line x (stepped (Ok tt) wr h t length') q counts threads
+    pub goes_on : {next : Absolute} {wr h t : ℕ} {q : List ℕ} → x ≡ Goes next wr → h ≡ next-head → t ≡ ahead (length queue) tail 1
+        → q ≡ moved next.0 → Requeued line x (stepped (Ok tt) wr t) (queue_of q (onward h p))
     goes_on {next = next} {h = h} e eh et eq =
         record {
           machine = pushed next.0 eh eq ∙ ap (λ (y : Executed). (queued (next_of y) (popped line) (pop line)).machine) (sym e);
           answer = ap (λ (y : Executed). next_told (next_of y) (get_or (pop line).header.counts name 0) (pc line)) (sym e);
           writes = ap writes_of (sym e);
-          tail = tail-on eh et ∙ ap (λ (k : ℕ). ahead k h length') (sym (ap length eq ∙ length-set queue tail _));
+          tail = tail-on _ eh et eq;
         }
 
-    pub splits-on : {next child : Absolute} {wr h t l : ℕ} {e : Entry} {q q₂ c₂ t₂ : List ℕ} → x ≡ Splits next child wr → h ≡ ahead (length queue) head 1 → e ≡ popped line
-        → q ≡ moved next.0
-        → (queue_of q₂ (ring_of h l) c₂ t₂ ≡ grown q counts threads h length' child.0 e.name) × (t ≡ ahead (length q) h l)
-        → length q₂ ≡ length q → Requeued line x (stepped (Ok tt) wr h t l) q₂ c₂ t₂
-    splits-on {next = next} {child = child} {h = h} {l = l} ex eh ee eq g el =
+    pub splits-on : {next child : Absolute} {wr h t n : ℕ} {q : List ℕ} {m : Machine} → x ≡ Splits next child wr → h ≡ next-head → n ≡ name
+        → q ≡ moved next.0 → (m ≡ grown q (onward h p) child.0 n) × (t ≡ tail_of m) → Requeued line x (stepped (Ok tt) wr t) m
+    splits-on {next = next} {child = child} {h = h} {n = n} ex eh en eq g =
         record {
-          machine = g.0 ∙ (λ j. cond (full (pushed next.0 eh eq j) (ee j).name) (pushed next.0 eh eq j) (started child.0 (ee j).name (pushed next.0 eh eq j)))
+          machine = g.0 ∙ (λ j. cond (full (pushed next.0 eh eq j) (en j)) (pushed next.0 eh eq j) (started child.0 (en j) (pushed next.0 eh eq j)))
               ∙ either (push (entry next.0 (popped line).thread name) (pop line)) (full (push (entry next.0 (popped line).thread name) (pop line)) name)
               ∙ ap (λ (y : Executed). (queued (next_of y) (popped line) (pop line)).machine) (sym ex);
           answer = ap (λ (y : Executed). next_told (next_of y) (get_or (pop line).header.counts name 0) (pc line)) (sym ex);
           writes = ap writes_of (sym ex);
-          tail = g.1 ∙ ap (λ (k : ℕ). ahead k h l) (sym el);
+          tail = g.1;
         }
       where
         either : (n : Machine) (b : Bool) → cond b n (started child.0 name n)
@@ -143,22 +170,20 @@ module _ {queue counts threads : List ℕ} {head length' tail : ℕ} (f : Front 
         either n false = refl
 
     -- an ended process pushes nothing
-    pub ended-on : (y : Ending) {wr h : ℕ} {e : Entry} {answer : Answer} {c₂ : List ℕ} → next_of x ≡ ends y → writes_of x ≡ wr → h ≡ ahead (length queue) head 1 → e ≡ popped line
-        → (told answer ≡ cond (eqb (get_or counts e.name 0 - 1) 0) (end_told y e.place.0) (gives 0 0)) × (c₂ ≡ set counts e.name (get_or counts e.name 0 - 1))
-        → Requeued line x (stepped answer wr h tail (length' - 1)) queue c₂ threads
+    pub ended-on : (y : Ending) {wr h : ℕ} {e : Entry} {answer : Answer} {q : Processes} → next_of x ≡ ends y → writes_of x ≡ wr → h ≡ next-head → e ≡ popped line
+        → (told answer ≡ cond (eqb (get_or p.counts e.name 0 - 1) 0) (end_told y e.place.0) (gives 0 0)) × (q ≡ ended e.name (onward h p))
+        → Requeued line x (stepped answer wr tail) (queue_of queue q)
     unfolding pop
-    ended-on y ex ew eh ee g =
+    ended-on y {h = h} {e = e} ex ew eh ee g =
         record {
-          machine = (λ j. queue_of queue (ring_of (eh j) (length' - 1)) ((g.1 ∙ ap lowered ee) j) threads) ∙ ap (λ (n : Next). (queued n (popped line) (pop line)).machine) (sym ex);
-          answer = g.0 ∙ ap (λ (e : Entry). cond (eqb (get_or counts e.name 0 - 1) 0) (end_told y e.place.0) (gives 0 0)) ee
+          machine = ap (queue_of queue) g.1 ∙ (λ j. queue_of queue (ended (ee j).name (onward (eh j) p))) ∙ ap (λ (n : Next). (queued n (popped line) (pop line)).machine) (sym ex);
+          answer = g.0 ∙ ap (λ (e : Entry). cond (eqb (get_or p.counts e.name 0 - 1) 0) (end_told y e.place.0) (gives 0 0)) ee
               ∙ ap (λ (k : ℕ). cond (eqb k 0) (end_told y (pc line)) (gives 0 0)) (sym left)
               ∙ ap (λ (n : Next). next_told n (get_or (pop line).header.counts name 0) (pc line)) (sym ex);
           writes = sym ew;
-          tail = f.behind ∙ slot_is head length' (length queue) f.some ∙ ap (λ (k : ℕ). ahead (length queue) k (length' - 1)) (sym eh);
+          tail = f.behind ∙ slot_is p.ring.head p.ring.length (length queue) f.some ∙ ap (λ (k : ℕ). ahead (length queue) k (p.ring.length - 1)) (sym eh)
+              ∙ ap (λ (r : Processes). ahead (length queue) r.ring.head r.ring.length) (sym g.1);
         }
       where
-        lowered : Entry → List ℕ
-        lowered e = set counts e.name (get_or counts e.name 0 - 1)
-
-        left : get_or (set counts name (get_or counts name 0 - 1)) name 0 ≡ get_or counts name 0 - 1
-        left = get_or-set_same counts name _ 0 (omega (arith, name-lt, f.sixteen))
+        left : get_or (set p.counts name (get_or p.counts name 0 - 1)) name 0 ≡ get_or p.counts name 0 - 1
+        left = get_or-set_same p.counts name _ 0 (omega (arith, name-lt, f.sixteen))

@@ -8,19 +8,21 @@ use native.Mathlib.Omega.{arith}
 use lib.Dec.{eqb}
 use borrow.Author.Tests.{eqb-true}
 use lib.ListN.{length, get_or}
-use Rattle.answer.specs.Numbers.{gives, Told}
+use Rattle.answer.specs.Numbers.{Told, told}
+use Rattle.std.specs.Prelude.{Err}
+use Rattle.answer.specs.declared.Error.TheVariants.{PrivateMemory}
 use Rattle.cell.specs.Cells.{unpacked}
 use Rattle.cell.proofs.Soundness.{sound-fields}
 use Rattle.machine.specs.State.{Machine}
 use Rattle.machine.specs.Step.{pc, executed}
-use Rattle.steps.specs.Inner.Apart.{queue_of}
+use Rattle.lent.specs.Parts.{processes_of, queue_of}
 use Rattle.lent.specs.Given.{Given, given, given_by}
 use Rattle.steps.specs.Inner.Instruction.{Executable}
 use Rattle.steps.specs.Inner.Queueing.{tail_of, Front}
 use Rattle.steps.specs.Inner.Ready.{Ready, step_of, plays_of, Playable, Scanned}
 use Rattle.steps.proofs.Answers.{step_left, here-sound, fetches, front-is, private-step, executable, executed-step}
 use Rattle.steps.proofs.Trust.{Playing, playable, plays-on}
-use Rattle.steps.proofs.Loop.{Going, as-run, onward, few-writes, stopped, reaches, again}
+use Rattle.steps.proofs.Loop.{Going, step-counted, as-run, onward, few-writes, stopped, reaches, again}
 
 -- the inner loop at a machine, with the writes so far and the tail
 pub record Round (until : ℕ) (start m : Machine) (w tail : ℕ) : Type 0 where
@@ -50,16 +52,16 @@ module _ {until : ℕ} {start m : Machine} {w tail : ℕ} (g : Round until start
     opcode-is : op ≡ (unpacked (get_or m.core (pc m) 0)).opcode
     opcode-is = is ∙ ap (λ (c : ℕ). (unpacked c).opcode) fetched
 
-    pub private-stops : 16 < op → given (gives 10 0) w (m.header.steps - start.header.steps) m ≡ given_by (plays_of (until - start.header.steps) start)
+    pub private-stops : 16 < op → given (told {A = Unit {0}} (Err PrivateMemory)) w (m.header.steps - start.header.steps) m ≡ given_by (plays_of (until - start.header.steps) start)
     private-stops h =
-        ap (λ (i : ℕ). given (gives 10 0) i (m.header.steps - start.header.steps) m) (sym (add-zero w))
+        ap (λ (i : ℕ). given (told {A = Unit {0}} (Err PrivateMemory)) i (m.header.steps - start.header.steps) m) (sym (add-zero w))
         ∙ stopped g.going 1 one-within (private-step m g.going.ready can-play (subst (λ (n : ℕ). 16 < n) opcode-is h) ∙ as-run m g.going.ready) refl
 
     module _ (few : op ≤ 16) where
       few-is : (unpacked (get_or m.core (pc m) 0)).opcode ≤ 16
       few-is = subst (λ (n : ℕ). n ≤ 16) opcode-is few
 
-      pub can-step : Front (queue_of m.queue m.header.ring m.header.counts m.header.threads) tail × Executable m.header.rules m.core (pc m) cell
+      pub can-step : Front (queue_of m.queue (processes_of m.header)) tail × Executable m.header.rules m.core (pc m) cell
       can-step = (
         front-is m g.going.ready can-play g.behind,
         subst (Executable m.header.rules m.core (pc m)) (sym fetched) (executable m g.going.ready can-play few-is),
@@ -68,6 +70,11 @@ module _ {until : ℕ} {start m : Machine} {w tail : ℕ} (g : Round until start
       module _ {t : Told} {sw : ℕ} {n : Machine} (done : given t sw 1 n ≡ given_by (executed m)) where
         one-step : given t sw 1 n ≡ given_by (step_of m)
         one-step = done ∙ executed-step m g.going.ready can-play few-is
+
+        pub one-more : n.header.steps ≡ m.header.steps + 1
+        one-more =
+            ap (λ (x : Given). x.machine.header.steps) one-step ∙ (step-counted m g.going.ready).steps
+            ∙ ap (λ (x : Given). m.header.steps + x.steps) (sym one-step)
 
         played : given t sw 1 n ≡ given_by (plays_of 1 m)
         played = one-step ∙ as-run m g.going.ready

@@ -8,7 +8,7 @@ use native.Mathlib.Omega.{arith}
 use lib.Dec.{eqb}
 use borrow.Author.Tests.{eqb-true, lt-ltb}
 use Rattle.laws.proofs.Every.{◌and◌}
-use Rattle.answer.specs.Numbers.{Answer, Told, told, gives}
+use Rattle.answer.specs.Numbers.{Told, told, gives}
 use Rattle.machine.specs.State.{Machine, Outcome, Verdict, accepted, refusal, first, settle, verdict_told}
 use Rattle.machine.specs.Queue.{entries}
 use Rattle.machine.specs.Soundness.{sound_entry}
@@ -75,7 +75,7 @@ module _ (ceiling : ℕ) (m : Machine) (r : Ready m) where
             ))
 
 -- the next step, asked whether it is refused unless the record is trusted
-module _ (ceiling : ℕ) (m : Machine) (r : Ready m) (trusted : Bool) (answer : Answer) (asked : told answer ≡ cond trusted (gives 0 0) (check.refused m)) where
+module _ (ceiling : ℕ) (m : Machine) (r : Ready m) (trusted : Bool) (said : Told) (asked : said ≡ cond trusted (gives 0 0) (check.refused m)) where
   bounds-are : check.in_bounds m ≡ true
   bounds-are = let t = r.taken in let h = lt-ltb _ _ r.head in simp (t, h)
 
@@ -84,31 +84,31 @@ module _ (ceiling : ℕ) (m : Machine) (r : Ready m) (trusted : Bool) (answer : 
   verdict-is = let w = bounds-are in simp w
 
   -- told 0: it is not
-  pub not-refused : eqb (told answer).number 0 ≡ true → (trusted ≡ true → Scanned ceiling m) → Plays (cond trusted ceiling (m.header.steps + 1)) m
+  pub not-refused : eqb said.number 0 ≡ true → (trusted ≡ true → Scanned ceiling m) → Plays (cond trusted ceiling (m.header.steps + 1)) m
   not-refused e s = go trusted s asked
     where
-      go : (t : Bool) → (t ≡ true → Scanned ceiling m) → told answer ≡ cond t (gives 0 0) (check.refused m) → Plays (cond t ceiling (m.header.steps + 1)) m
+      go : (t : Bool) → (t ≡ true → Scanned ceiling m) → said ≡ cond t (gives 0 0) (check.refused m) → Plays (cond t ceiling (m.header.steps + 1)) m
       go true s a = inl (s refl)
       go false s a =
           inr (
             refl,
             record {
               only = λ n v f.
-                  let z : n ≡ 0 = sym (ap (λ (t : Told). t.number) (a ∙ verdict-is ∙ ap verdict_told f)) ∙ eqb-true (told answer).number 0 e in
+                  let z : n ≡ 0 = sym (ap (λ (t : Told). t.number) (a ∙ verdict-is ∙ ap verdict_told f)) ∙ eqb-true said.number 0 e in
                   absurd
                   (number_of (λ k. k ≡ 0 → ⊥) (next_checks m)
                   ((λ q. omega arith) and (λ q. omega arith) and (λ q. omega arith) and (λ q. omega arith) and (λ q. omega arith) and (λ q. omega arith) and tt) n v f z);
             },
           )
 
-  pub is-refused : eqb (told answer).number 0 ≡ false → (trusted ≡ false) × (given (told answer) 0 0 m ≡ given_by (step_of m))
+  pub is-refused : eqb said.number 0 ≡ false → (trusted ≡ false) × (given said 0 0 m ≡ given_by (step_of m))
   unfolding step_of
   is-refused e = go trusted refl asked
     where
-      settled : (v : Verdict) → first (next_checks m) ≡ v → told answer ≡ verdict_told v → given (told answer) 0 0 m ≡ given_by (settle v m (executed m))
+      settled : (v : Verdict) → first (next_checks m) ≡ v → said ≡ verdict_told v → given said 0 0 m ≡ given_by (settle v m (executed m))
       settled accepted f t = absurd (true≢false (sym (ap (λ (k : Told). eqb k.number 0) t) ∙ e))
       settled (refusal n v) f t = ap (λ (k : Told). given k 0 0 m) t
 
-      go : (t : Bool) → trusted ≡ t → told answer ≡ cond t (gives 0 0) (check.refused m) → (trusted ≡ false) × (given (told answer) 0 0 m ≡ given_by (settle (first (next_checks m)) m (executed m)))
+      go : (t : Bool) → trusted ≡ t → said ≡ cond t (gives 0 0) (check.refused m) → (trusted ≡ false) × (given said 0 0 m ≡ given_by (settle (first (next_checks m)) m (executed m)))
       go true f a = absurd (true≢false (sym (ap (λ (k : Told). eqb k.number 0) a) ∙ e))
       go false f a = (f, settled (first (next_checks m)) refl (a ∙ verdict-is))

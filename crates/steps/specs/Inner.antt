@@ -1,5 +1,6 @@
 -- Inner definitions: no promise of a public function and no demand reaches them.
 pub mod Instruction
+pub mod Scenes
 pub mod Acts
 pub mod Queueing
 pub mod Ready

@@ -8,6 +8,7 @@ ghost use Rattle.lent.specs.Parts.{parts};
 ghost use Rattle.lent.specs.Given.{given, given_by};
 
 use crate::running::run_loop;
+use crate::setting::Setting;
 use answer::{Answer, Error};
 use lent::sized;
 use machine::{Processes, Roster, Rules};
@@ -19,6 +20,8 @@ mod opcode;
 mod operand;
 mod ring;
 mod running;
+mod scene;
+mod setting;
 mod stepping;
 
 // What a run answers, with its writes and steps.
@@ -54,5 +57,11 @@ pub fn run_parts(
         &processes.counts,
         &processes.threads,
     );
-    run_loop(core, queue, rules, names.held, processes, ceiling)
+    run_loop(
+        core,
+        queue,
+        Setting::new(rules, names.held),
+        processes,
+        ceiling,
+    )
 }

@@ -44,26 +44,6 @@ fn direct(core: &[u64], rules: Rules, pc: Absolute, here: u64, mode: u64, n: Rel
     }
 }
 
-// The decrement, then the register.
-fn lower(core: &mut [u64], at: usize, there: usize, lowered: u64) -> u64
-    requires { (at < length core.old) × (there < length core.old) }
-    ensures { (result ≡ get_or (set core.old at lowered) there 0) × (core.new ≡ set core.old at lowered) }
-{
-    core[at] = lowered;
-    let register = core[there];
-    register
-}
-
-// The register, then the increment.
-fn raise(core: &mut [u64], at: usize, there: usize, raised: u64) -> u64
-    requires { (at < length core.old) × (there < length core.old) }
-    ensures { (result ≡ get_or core.old there 0) × (core.new ≡ set core.old at raised) }
-{
-    let copied = core[there];
-    core[at] = raised;
-    copied
-}
-
 // The six modes that go through the A number (even) or the B number (odd) of the cell at the location.
 fn indirect(core: &mut [u64], rules: Rules, pc: Absolute, mode: u64, n: Relative) -> Operand
     requires { Ready rules core.old pc.0 n.0 × (2 ≤ mode) × (mode < 8)
@@ -75,8 +55,8 @@ fn indirect(core: &mut [u64], rules: Rules, pc: Absolute, mode: u64, n: Relative
     let location = add(pc, n, size);
     let at = location.0 as usize;
     let old = core[at];
-    let bit = field_of(mode);
-    let found = number_at(old, bit);
+    let field = field_of(mode);
+    let found = number_at(old, field);
     let to = aim(size, mode, found);
     let pointer = add(location, to, size);
     let there = pointer.0 as usize;
@@ -88,11 +68,12 @@ fn indirect(core: &mut [u64], rules: Rules, pc: Absolute, mode: u64, n: Relative
         };
     }
     if mode < POST_INC_INDIRECT_A {
-        let register = lower(core, at, there, with_number_at(old, bit, to));
+        core[at] = with_number_at(old, field, to);
+        let register = core[there];
         return Operand { pointer, register };
     }
-    let more = increment(found, size);
-    let register = raise(core, at, there, with_number_at(old, bit, more));
+    let register = core[there];
+    core[at] = with_number_at(old, field, increment(found, size));
     Operand { pointer, register }
 }
 

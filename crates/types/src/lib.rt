@@ -6,7 +6,7 @@ ghost use Rattle.types.specs.Defaults.{ranged, default_modifier, default_of, giv
 ghost use Rattle.types.specs.Modifier.{I};
 ghost use Rattle.types.specs.Types.{field_pairs};
 
-use crate::field::{A, B};
+use crate::field::Field;
 use crate::mode::{IMMEDIATE, POST_INC_INDIRECT_B};
 use crate::modifier::{AB, F, I};
 use crate::opcode::{
@@ -74,8 +74,12 @@ pub fn default_88_to_94(opcode: u8, a_mode: u8, b_mode: u8) -> Result<u8, Error>
     default_of(opcode, a_mode, b_mode).ok_or(Error::InvalidCode(0))
 }
 
+const A: Field = Field::A;
+
+const B: Field = Field::B;
+
 // By modifier: a's field, and b's field and target, of the first pair; then of the last, the same one where there is one.
-const FIELD_PAIRS: [[u64; 4]; 7] = [
+pub const FIELD_PAIRS: [[Field; 4]; 7] = [
     [A, A, A, A],
     [B, B, B, B],
     [A, B, A, B],
@@ -85,8 +89,8 @@ const FIELD_PAIRS: [[u64; 4]; 7] = [
     [A, A, B, B],
 ];
 
-// The field pairs of the seven modifiers, a field by its first bit.
-pub fn field_pairs() -> [[u64; 4]; 7]
+// The field pairs of the seven modifiers.
+pub fn field_pairs() -> [[Field; 4]; 7]
     ensures { result ≡ field_pairs }
 {
     FIELD_PAIRS

@@ -8,7 +8,7 @@ use Rattle.scan.proofs.entries_tallied.Given as goal
 
 abbrev pub invariant-loop-i : goal.invariant-loop-i
 invariant-loop-i l =
-    let r = l.processes.ring in
+    let p = l.processes in
     (l.slot < length l.queue) × (length l.tallies ≡ 16)
-    × EveryLeft l.queue r.head r.length (test l.queue l.rules l.held l.processes) l.slot l._i
-    × TallyLeft l.queue r.head r.length l.tallies l.slot l._i
+    × EveryLeft l.queue p.ring.head p.ring.length (test l.queue l.rules l.held p) l.slot l._i
+    × TallyLeft l.queue p.ring.head p.ring.length l.tallies l.slot l._i

@@ -1,14 +1,14 @@
 -- A queue with its front entry and its tail, the slot that the next entry goes to, and what an executed instruction does to it.
 -- Inner. Assumes nothing.
-use Rattle.std.specs.Prelude.{ℕ, ◌/◌, ◌^◌, ◌<◌, ◌≤◌, ◌≡◌, List, length, get_or}
+use Rattle.std.specs.Prelude.{ℕ, ◌-◌, ◌/◌, ◌^◌, ◌<◌, ◌≤◌, ◌≡◌, length, get_or, set}
 use Rattle.answer.specs.Numbers.{told}
 use Rattle.offset.specs.Offset.{ahead}
+use Rattle.machine.specs.declared.Processes.{Processes}
 use Rattle.machine.specs.declared.Ring.{Ring}
 use Rattle.machine.specs.State.{Machine}
 use Rattle.machine.specs.Queue.{pop}
 use Rattle.machine.specs.Execution.{dat, divisor, Next, ends, goes, splits}
 use Rattle.machine.specs.Step.{popped, pc, queued, next_told}
-use Rattle.steps.specs.Inner.Apart.{queue_of}
 use Rattle.steps.specs.declared.opcode.Executed.{Executed}
 use Rattle.steps.specs.declared.opcode.Executed.TheVariants.{Goes, Splits, Dat, DivideByZero}
 use Rattle.steps.specs.declared.ring.Stepped.{Stepped}
@@ -53,9 +53,19 @@ Near (Splits p c w) = p.0 < 65536
 Near (Dat w) = Unit {0}
 Near (DivideByZero w) = Unit {0}
 
+-- a process of a name popped and not pushed again, the head already moved on
+abbrev pub ended : ℕ → Processes → Processes
+ended name p =
+    record {
+      ring = ring_of p.ring.head (p.ring.length - 1);
+      steps = p.steps;
+      counts = set p.counts name (get_or p.counts name 0 - 1);
+      threads = p.threads;
+    }
+
 -- the front entry popped, and the next places pushed
-pub record Requeued (m : Machine) (x : Executed) (r : Stepped) (queue counts threads : List ℕ) : Type 0 where
-  pub machine : queue_of queue (ring_of r.head r.length) counts threads ≡ (queued (next_of x) (popped m) (pop m)).machine
+pub record Requeued (m : Machine) (x : Executed) (r : Stepped) (n : Machine) : Type 0 where
+  pub machine : n ≡ (queued (next_of x) (popped m) (pop m)).machine
   pub answer : told r.answer ≡ next_told (next_of x) (get_or (pop m).header.counts (popped m).name 0) (pc m)
   pub writes : r.writes ≡ writes_of x
-  pub tail : r.tail ≡ ahead (length queue) r.head r.length
+  pub tail : r.tail ≡ tail_of n

@@ -1,7 +1,7 @@
 -- What the run loop asks of the parts that it is lent, which have no names, and what it promises of them.
 -- Inner. Assumes nothing.
-use Rattle.answer.specs.Numbers.{Answer}
-use Rattle.std.specs.Prelude.{ℕ, zero, suc, ◌+◌, ◌-◌, ◌≤◌, ◌<◌, ◌≡◌, true, ◌⊎◌, length, take}
+use Rattle.std.specs.Prelude.{ℕ, zero, suc, ◌+◌, ◌-◌, ◌≤◌, ◌<◌, ◌≡◌, true, ◌⊎◌, length, take, Result}
+use Rattle.answer.specs.declared.Error.{Error}
 use Rattle.laws.specs.Lists.{total}
 use Rattle.machine.specs.State.{Machine, Outcome, done, and_then, refusal, first, passes, settle}
 use Rattle.machine.specs.Soundness.{fresh_checks}
@@ -41,5 +41,5 @@ abbrev pub Plays : ℕ → Machine → Type 0
 Plays ceiling m = Scanned ceiling m ⊎ ((ceiling ≡ m.header.steps + 1) × Playable m)
 
 -- what a run gives back
-abbrev pub ran_of : Answer → ℕ → ℕ → ℕ → Ran
+abbrev pub ran_of : Result (Unit {0}) Error → ℕ → ℕ → ℕ → Ran
 ran_of answer writes before taken = record { answer = answer; writes = writes; steps = taken - before }

@@ -1,7 +1,8 @@
 -- The goals of `steps::modifier::meet` that the check leaves.
-use Rattle.steps.proofs.FieldPairs.{met-is}
+use Rattle.std.proofs.Common.{rules}
+use Rattle.steps.specs.Inner.Acts.{first_of, last_of}
 use Rattle.steps.proofs.modifier.meet.Goals as goal
 
 pub returns : goal.returns
-returns c =
-    met-is c.args.modifier c.args.ra c.args.rb c.requires.0 c.number_at.ensures c.number_at-2.ensures c.number_at-3.ensures c.number_at-4.ensures
+unfolding first_of last_of
+returns c = search rules

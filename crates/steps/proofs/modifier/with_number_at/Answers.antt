@@ -6,4 +6,4 @@ pub returns : goal.returns
 returns c =
     let a = c.args in
     let p = c.requires in
-    rw (field_is a.w a.bit p.0, fits a.bit a.n.0 p.0 p.2) (with-is a.w a.bit a.n.0 p.0 p.1 p.2)
+    rw c.first_bit-bit.ensures (rw (field_is a.field a.w, fits a.field a.n.0 p.1) (with-is a.field a.w a.n.0 p.0 p.1))

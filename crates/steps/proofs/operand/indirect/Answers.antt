@@ -1,48 +1,56 @@
 -- The goals of `steps::operand::indirect` that the check leaves.
-use Rattle.address.specs.Rounding.{field_through}
-use Rattle.word.proofs.Cells.{reduced, number_by, with-by}
-use Rattle.steps.proofs.Operating.{first_bit_lem, there-small, to-small, up_small, plain, lower, raise}
+use mathlib.Core.Path.{refl, ap, ◌∙◌}
+use lib.ListN.{get_or}
+use Rattle.types.specs.Types.{Field}
+use Rattle.cell.specs.Cells.{packed, unpacked, number, with_number}
+use Rattle.word.proofs.Cells.{reduced}
+use Rattle.steps.proofs.Operating.{there-small, to-small, up_small, plain, lower, raise}
 use Rattle.steps.proofs.operand.indirect.Goals as goal
 
 pub returns-then-mode-lt-PRE_DEC_INDIRECT_A : goal.returns-then-mode-lt-PRE_DEC_INDIRECT_A
 returns-then-mode-lt-PRE_DEC_INDIRECT_A c =
     let a = c.args in
+    let found = c.number_at-found.ensures ∙ ap (λ (f : Field). number f (unpacked (get_or a.core.now c.add-location.result.0 0))) c.field_of-field.ensures in
     plain a.rules a.core.now a.pc.0 a.mode a.n.0 c.requires.3 c.add-location.result
-    (reduced _ _ c.requires.0.place c.add-location.ensures).is c.requires.0 c.requires.1 c.requires.2 _ _ c.add-pointer.result (number_by (field_through a.mode) _ c.field_of-bit.ensures c.number_at-found.ensures) c.aim-to.ensures
+    (reduced _ _ c.requires.0.place c.add-location.ensures).is c.requires.0 c.requires.1 c.requires.2 _ _ c.add-pointer.result found c.aim-to.ensures
     (reduced _ _ c.requires.0.place c.add-pointer.ensures).is c.if-mode-lt-PRE_DEC_INDIRECT_A.true
 
 pub with_number_at-requires : goal.with_number_at-requires
 with_number_at-requires c =
-    let a = c.args in (
-      first_bit_lem (field_through a.mode) c.field_of-bit.ensures,
+    let a = c.args in
+    let found = c.number_at-found.ensures ∙ ap (λ (f : Field). number f (unpacked (get_or a.core.now c.add-location.result.0 0))) c.field_of-field.ensures in (
       there-small a.rules a.core.now a.pc.0 a.mode a.n.0 c.requires.3 c.add-location.result
           (reduced _ _ c.requires.0.place c.add-location.ensures).is,
       to-small a.rules a.core.now a.pc.0 a.mode a.n.0 c.requires.3 c.add-location.result
-          (reduced _ _ c.requires.0.place c.add-location.ensures).is c.requires.0 c.requires.1 c.requires.2 _ _ c.add-pointer.result (number_by (field_through a.mode) _ c.field_of-bit.ensures c.number_at-found.ensures) c.aim-to.ensures
+          (reduced _ _ c.requires.0.place c.add-location.ensures).is c.requires.0 c.requires.1 c.requires.2 _ _ c.add-pointer.result found c.aim-to.ensures
           (reduced _ _ c.requires.0.place c.add-pointer.ensures).is,
     )
 
 pub returns-then-mode-lt-POST_INC_INDIRECT_A : goal.returns-then-mode-lt-POST_INC_INDIRECT_A
 returns-then-mode-lt-POST_INC_INDIRECT_A c =
     let a = c.args in
+    let found = c.number_at-found.ensures ∙ ap (λ (f : Field). number f (unpacked (get_or a.core.now c.add-location.result.0 0))) c.field_of-field.ensures in
+    let word = c.with_number_at.ensures ∙ ap (λ (f : Field). packed (with_number f c.aim-to.result.0 (unpacked (get_or a.core.now c.add-location.result.0 0)))) c.field_of-field.ensures in
     lower a.rules a.core.now a.pc.0 a.mode a.n.0 c.requires.3 c.add-location.result
-    (reduced _ _ c.requires.0.place c.add-location.ensures).is c.requires.0 c.requires.1 c.requires.2 _ _ c.add-pointer.result (number_by (field_through a.mode) _ c.field_of-bit.ensures c.number_at-found.ensures) c.aim-to.ensures
-    (reduced _ _ c.requires.0.place c.add-pointer.ensures).is _ _ c.lower-register.ensures.1 c.if-mode-lt-PRE_DEC_INDIRECT_A.false c.if-mode-lt-POST_INC_INDIRECT_A.true (with-by (field_through a.mode) _ _ c.field_of-bit.ensures c.with_number_at.ensures) _ c.lower-register.ensures.0
+    (reduced _ _ c.requires.0.place c.add-location.ensures).is c.requires.0 c.requires.1 c.requires.2 _ _ c.add-pointer.result found c.aim-to.ensures
+    (reduced _ _ c.requires.0.place c.add-pointer.ensures).is _ _ refl c.if-mode-lt-PRE_DEC_INDIRECT_A.false c.if-mode-lt-POST_INC_INDIRECT_A.true word _ refl
 
 pub with_number_at-requires-2 : goal.with_number_at-requires-2
 with_number_at-requires-2 c =
-    let a = c.args in (
-      first_bit_lem (field_through a.mode) c.field_of-bit.ensures,
+    let a = c.args in
+    let found = c.number_at-found.ensures ∙ ap (λ (f : Field). number f (unpacked (get_or a.core.now c.add-location.result.0 0))) c.field_of-field.ensures in (
       there-small a.rules a.core.now a.pc.0 a.mode a.n.0 c.requires.3 c.add-location.result
           (reduced _ _ c.requires.0.place c.add-location.ensures).is,
       up_small a.rules a.core.now a.pc.0 a.mode a.n.0 c.requires.3 c.add-location.result
-          (reduced _ _ c.requires.0.place c.add-location.ensures).is c.requires.0 c.requires.1 c.requires.2 _ _ c.add-pointer.result (number_by (field_through a.mode) _ c.field_of-bit.ensures c.number_at-found.ensures) c.aim-to.ensures
-          (reduced _ _ c.requires.0.place c.add-pointer.ensures).is c.increment-more.ensures,
+          (reduced _ _ c.requires.0.place c.add-location.ensures).is c.requires.0 c.requires.1 c.requires.2 _ _ c.add-pointer.result found c.aim-to.ensures
+          (reduced _ _ c.requires.0.place c.add-pointer.ensures).is c.increment.ensures,
     )
 
 pub returns : goal.returns
 returns c =
     let a = c.args in
+    let found = c.number_at-found.ensures ∙ ap (λ (f : Field). number f (unpacked (get_or a.core.now c.add-location.result.0 0))) c.field_of-field.ensures in
+    let word = c.with_number_at-2.ensures ∙ ap (λ (f : Field). packed (with_number f c.increment.result.0 (unpacked (get_or a.core.now c.add-location.result.0 0)))) c.field_of-field.ensures in
     raise a.rules a.core.now a.pc.0 a.mode a.n.0 c.requires.3 c.add-location.result
-    (reduced _ _ c.requires.0.place c.add-location.ensures).is c.requires.0 c.requires.1 c.requires.2 _ _ c.add-pointer.result (number_by (field_through a.mode) _ c.field_of-bit.ensures c.number_at-found.ensures) c.aim-to.ensures
-    (reduced _ _ c.requires.0.place c.add-pointer.ensures).is _ _ c.raise-register.ensures.1 c.if-mode-lt-POST_INC_INDIRECT_A.false _ c.increment-more.ensures (with-by (field_through a.mode) _ _ c.field_of-bit.ensures c.with_number_at-2.ensures) _ c.raise-register.ensures.0
+    (reduced _ _ c.requires.0.place c.add-location.ensures).is c.requires.0 c.requires.1 c.requires.2 _ _ c.add-pointer.result found c.aim-to.ensures
+    (reduced _ _ c.requires.0.place c.add-pointer.ensures).is _ _ refl c.if-mode-lt-POST_INC_INDIRECT_A.false _ c.increment.ensures word _ refl

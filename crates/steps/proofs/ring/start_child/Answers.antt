@@ -5,9 +5,8 @@ use Rattle.steps.proofs.ring.start_child.Goals as goal
 
 pub returns : goal.returns
 returns c =
-    λ head e.
     let a = c.args in
-    let push = c.push-after in (
-      starts a.queue.now a.counts.now a.threads.now head a.length a.place.0 a.name c.if-queue-length.false e c.pack-child.ensures push.ensures.1 refl,
-      started-tail a.queue.now a.counts.now a.threads.now head a.length a.place.0 a.name e push.ensures.0,
+    let push = c.push-after.ensures in (
+      starts a.queue.now a.processes.now a.place.0 a.name c.if-queue-processes.false c.requires.1 c.pack.ensures push.1,
+      started-tail a.queue.now a.processes.now a.place.0 a.name _ c.requires.1 push.1 push.0,
     )

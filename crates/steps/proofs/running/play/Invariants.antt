@@ -2,17 +2,13 @@
 use Prim.Native.Nat.{◌-◌}
 use mathlib.Core.Path.{◌≡◌}
 use Rattle.lent.specs.Parts.{unnamed}
-use Rattle.steps.specs.Inner.Apart.{processes}
-use Rattle.steps.specs.Inner.Queueing.{ring_of}
 use Rattle.steps.proofs.Rounds.{Round}
 use Rattle.steps.proofs.running.play.Given as goal
 
-abbrev pub invariant-loop-done : goal.invariant-loop-done
-invariant-loop-done l =
-    let i = l.fn in
-    Round l.until (unnamed i.core i.queue i.rules l.held i.processes)
-    (unnamed l.core l.queue l.rules l.held (processes (ring_of l.head l.length) l.done l.processes.counts l.processes.threads)) l.writes l.tail
-    × (l.processes.steps ≡ i.processes.steps)
+abbrev pub invariant-loop-processes : goal.invariant-loop-processes
+invariant-loop-processes l =
+    let i = l.initial in
+    Round l.until (unnamed i.core i.queue l.setting.rules l.setting.held i.processes) (unnamed l.core l.queue l.setting.rules l.setting.held l.processes) l.writes l.tail
 
-abbrev pub decreases-loop-done : goal.decreases-loop-done
-decreases-loop-done l = l.until - l.done
+abbrev pub decreases-loop-processes : goal.decreases-loop-processes
+decreases-loop-processes l = l.until - l.processes.steps

@@ -6,11 +6,11 @@ use Rattle.steps.proofs.Loop.{Going}
 use Rattle.steps.proofs.Rounds.{Trusting}
 use Rattle.steps.proofs.running.run_loop.Given as goal
 
-abbrev pub invariant-loop-done : goal.invariant-loop-done
-invariant-loop-done l =
-    let i = l.fn in
-    Going l.ceiling (unnamed i.core i.queue l.rules l.held i.processes) (unnamed l.core l.queue l.rules l.held l.processes) l.writes
-    × Trusting l.ceiling (unnamed l.core l.queue l.rules l.held l.processes) l.trusted × (l.done ≡ l.processes.steps)
+abbrev pub invariant-loop-processes : goal.invariant-loop-processes
+invariant-loop-processes l =
+    let i = l.initial in
+    let m = unnamed l.core l.queue l.setting.rules l.setting.held l.processes in
+    Going l.ceiling (unnamed i.core i.queue l.setting.rules l.setting.held i.processes) m l.writes × Trusting l.ceiling m l.trusted × (l.processes.steps ≤ 4294967295)
 
-abbrev pub decreases-loop-done : goal.decreases-loop-done
-decreases-loop-done l = l.ceiling - l.done
+abbrev pub decreases-loop-processes : goal.decreases-loop-processes
+decreases-loop-processes l = l.ceiling - l.processes.steps
