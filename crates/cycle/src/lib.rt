@@ -32,14 +32,6 @@ fn run_to(core: &mut [u64], queue: &mut [u64], h: Header, ceiling: u64) -> Outco
 // Steps while steps taken are below the ceiling, 10,000 where none is given, up to the first answer not 0.
 pub fn run(core: &mut [u64], queue: &mut [u64], h: Header, ceiling: Option<u64>) -> Outcome
     ensures { given (told result.answer) result.writes result.steps (machine_of core.new queue.new result.header)
-        ≡ given_by (spec.run (Some ceiling) (machine_of core.old queue.old h)) }
-{
-    run_to(core, queue, h, ceiling.unwrap_or(10000))
-}
-
-// Steps while steps taken are below the ceiling, 10,000 where none is given, up to the first answer not 0.
-pub fn run(core: &mut [u64], queue: &mut [u64], h: Header, ceiling: Option<u64>) -> Outcome
-    ensures { given (told result.answer) result.writes result.steps (machine_of core.new queue.new result.header)
         ≡ given_by (spec.run ceiling (machine_of core.old queue.old h)) }
 {
     run_to(core, queue, h, ceiling.unwrap_or(10000))

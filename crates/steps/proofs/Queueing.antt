@@ -1,6 +1,5 @@
 -- What an executed instruction does to a queue: the front entry popped, and the next places pushed at the tail.
 -- Assumes nothing.
-use Rattle.std.specs.Prelude.{Ok}
 use mathlib.Core.Path.{◌≡◌, refl, sym, ap, ap₂, ◌∙◌}
 use mathlib.Core.Bool.{Bool, true, false, cond}
 use mathlib.Core.List.{List}
@@ -23,7 +22,7 @@ use Rattle.machine.specs.Names.{numbered}
 use Rattle.machine.specs.Queue.{packed_entry, unpacked_entry, entry, full, pop, push, started}
 use Rattle.machine.specs.Execution.{Ending, Next, ends}
 use Rattle.machine.specs.Step.{popped, pc, Queued, queued, end_told, next_told}
-use Rattle.steps.specs.Inner.Apart.{queue_of}
+use Rattle.lent.specs.Parts.{queue_of}
 use Rattle.steps.specs.declared.opcode.Executed.{Executed}
 use Rattle.steps.specs.declared.opcode.Executed.TheVariants.{Goes, Splits}
 use Rattle.steps.specs.declared.ring.Stepped.{Stepped}

@@ -4,4 +4,3 @@ pub mod Scenes
 pub mod Acts
 pub mod Queueing
 pub mod Ready
-pub mod Apart

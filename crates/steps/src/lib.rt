@@ -1,4 +1,4 @@
-// Step and run on the parts of any record: the test of its header, then the run loop.
+// Step and run on the lent parts of any record: the test of its header, then the run loop.
 #![tactic(auto)]
 
 ghost use Rattle.std.specs.Prelude.{◌≡◌, Some};

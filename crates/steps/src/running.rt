@@ -4,8 +4,6 @@ ghost use Rattle.answer.specs.Numbers.{told, gives};
 ghost use Rattle.refusal.specs.Checks as check;
 ghost use Rattle.lent.specs.Parts.{unnamed};
 ghost use Rattle.lent.specs.Given.{given, given_by};
-ghost use Rattle.steps.specs.Inner.Apart as apart;
-ghost use Rattle.steps.specs.Inner.Queueing.{ring_of};
 ghost use Rattle.steps.specs.Inner.Ready.{Ready, plays_of, Plays, Scanned, ran_of};
 
 use crate::Ran;

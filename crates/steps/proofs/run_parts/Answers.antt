@@ -1,4 +1,5 @@
 -- The goals of `steps::run_parts` that the check leaves.
+use Rattle.std.specs.Prelude.{Some}
 use mathlib.Core.Path.{sym, ap, ◌∙◌}
 use Rattle.lent.specs.Parts.{parts, unnamed}
 use Rattle.lent.specs.Given.{Given, given, given_by}

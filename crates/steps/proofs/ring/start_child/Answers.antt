@@ -1,5 +1,4 @@
 -- The goals of `steps::ring::start_child` that the check leaves.
-use mathlib.Core.Path.{refl}
 use Rattle.steps.proofs.Queueing.{starts, started-tail}
 use Rattle.steps.proofs.ring.start_child.Goals as goal
 

@@ -1,6 +1,5 @@
 -- What the loop of `steps::running::play` keeps, and its measure.
 use Prim.Native.Nat.{◌-◌}
-use mathlib.Core.Path.{◌≡◌}
 use Rattle.lent.specs.Parts.{unnamed}
 use Rattle.steps.proofs.Rounds.{Round}
 use Rattle.steps.proofs.running.play.Given as goal

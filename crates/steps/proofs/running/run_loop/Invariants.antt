@@ -1,6 +1,5 @@
 -- What the loop of `steps::running::run_loop` keeps, and its measure.
-use Prim.Native.Nat.{◌-◌}
-use mathlib.Core.Path.{◌≡◌}
+use Prim.Native.Nat.{◌-◌, ◌≤◌}
 use Rattle.lent.specs.Parts.{unnamed}
 use Rattle.steps.proofs.Loop.{Going}
 use Rattle.steps.proofs.Rounds.{Trusting}
