@@ -6,7 +6,7 @@ use mathlib.Core.List.{List, [], ◌∷◌}
 use Prim.Native.Nat.{ℕ, ◌≤◌, ◌<◌}
 use lib.Dec.{eqb, leb, ltb}
 use lib.ListN.{length, get_or, drop}
-use borrow.Author.Tests.{eq-eqb, ne_eqb, leb-true}
+use borrow.Author.Tests.{leb-true}
 use Rattle.laws.proofs.Tests.{both, and_assoc}
 use Rattle.answer.specs.Numbers.{Told, gives}
 use Rattle.cell.specs.Cells.{sound_word}
@@ -102,20 +102,3 @@ module _ (m : Machine) where
 
   pub place-below : sound_front m ≡ true → pc m < m.header.rules.size
   place-below s = (sound-entry m.header (front m) s).place
-
-  pub empty : m.header.ring.length ≡ 0 → first (front_checks m) ≡ refusal 7 0
-  empty e = let z = eq-eqb m.header.ring.length 0 e in simp z
-
-  module _ (some : m.header.ring.length ≡ 0 → ⊥) where
-    not-empty : eqb m.header.ring.length 0 ≡ false
-    not-empty = ne_eqb _ _ some
-
-    pub unsound-front : sound_front m ≡ false → first (front_checks m) ≡ refusal 9 0
-    unsound-front e = let z = not-empty in simp (z, e)
-
-    module _ (s : sound_front m ≡ true) where
-      pub numbers-end : worn m ≡ true → first (front_checks m) ≡ refusal 8 0
-      numbers-end e = let z = not-empty in simp (z, s, e)
-
-      pub fronted : worn m ≡ false → first (front_checks m) ≡ accepted
-      fronted e = let z = not-empty in simp (z, s, e)

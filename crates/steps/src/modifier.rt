@@ -15,7 +15,7 @@ pub(crate) fn modifier(w: u64) -> u8
     k
 }
 
-// The number in a field.
+// The number in a field. `word::number`, which takes any number for a field, has to choose.
 pub(crate) fn number_at(w: u64, field: Field) -> Relative
     ensures { result.0 ≡ number field (unpacked w) }
 {
@@ -23,7 +23,7 @@ pub(crate) fn number_at(w: u64, field: Field) -> Relative
     Relative(n)
 }
 
-// The word of a sound cell with another number in a field.
+// The word of a sound cell with another number in a field. By `word::with_number`, which takes any word, and `word::number` a run takes 6 to 8 % more instructions.
 pub(crate) fn with_number_at(w: u64, field: Field, n: Relative) -> u64
     requires { (w < 2 ^ 46) × (n.0 < 65536) }
     ensures { result ≡ packed (with_number field n.0 (unpacked w)) }
@@ -58,6 +58,7 @@ pub(crate) fn meet(modifier: u8, ra: u64, rb: u64) -> (Met, Met)
     requires { modifier ≤ 6 }
     ensures { (result.0 ≡ first_of modifier ra rb) × (result.1 ≡ last_of modifier ra rb) }
 {
+    // By reference: an index into the constant itself copies it first, which is 4 and 11 % more instructions for dwarf and mixed.
     let pairs = &FIELD_PAIRS;
     let row = pairs[modifier as usize];
     (pair(row[0], row[1], ra, rb), pair(row[2], row[3], ra, rb))

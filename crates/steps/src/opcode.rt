@@ -14,7 +14,7 @@ use types::opcode::{
     ADD, CMP, DAT, DIV, DJN, JMN, JMP, JMZ, LDP, MOD, MOV, MUL, NOP, SLT, SNE, SPL, STP, SUB,
 };
 
-// What an instruction answers: the next place, beside it the place of SPL's child, or how it ends; and the writes.
+// What an instruction answers: the next place, beside it the place of SPL's child, or how it ends; and the writes. With an error in place of the two endings a run takes 7 to 10 % more instructions, with the writes in a struct beside the places 2 to 3 %.
 #[derive(Clone, Copy)]
 pub(crate) enum Executed {
     Goes(Absolute, u64),
@@ -23,7 +23,7 @@ pub(crate) enum Executed {
     DivideByZero(u64),
 }
 
-// The opcode's number of a sound cell.
+// The opcode's number of a sound cell: `word::opcode`, which takes any word, has a mask more.
 pub(crate) fn opcode(w: u64) -> u64
     requires { w < 2 ^ 46 }
     ensures { result ≡ (unpacked w).opcode }
@@ -84,6 +84,7 @@ fn tests(opcode: u64, b1: Relative, b2: Relative) -> bool
     (b1.0 != 0) | (b2.0 != 0)
 }
 
+// The target is lent, so each opcode that reads it asks for itself that it is sound.
 impl Scene {
     // PC+1.
     fn onward(self) -> Absolute
@@ -194,7 +195,9 @@ impl Scene {
         if opcode == SLT {
             return (p.a.0 < p.b.0) & (q.a.0 < q.b.0);
         }
-        let equal = (p.a.0 == p.b.0) & (q.a.0 == q.b.0) & ((self.modifier != I) | (self.ra == live));
+        let equal = (p.a.0 == p.b.0)
+            & (q.a.0 == q.b.0)
+            & ((self.modifier != I) | (self.ra == live));
         if opcode == SNE {
             return !equal;
         }

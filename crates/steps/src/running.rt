@@ -30,7 +30,7 @@ fn ran(answer: Answer, writes: u64, before: u32, processes: &Processes) -> Ran
     }
 }
 
-// Steps while steps taken are below a ceiling, up to the first answer not 0, where each can be refused by 10 only.
+// Steps while steps taken are below a ceiling, up to the first answer not 0, where each can be refused by 10 only. The steps taken are those of the record, and no index.
 fn play(
     core: &mut [u64],
     queue: &mut [u64],
@@ -133,14 +133,7 @@ fn trusts(
     if processes.ring.length == 0 {
         return false;
     }
-    scan(
-        core,
-        queue,
-        setting.rules,
-        setting.held,
-        processes,
-        steps,
-    )
+    scan(core, queue, setting.rules, setting.held, processes, steps)
 }
 
 // Steps while steps taken are below the ceiling, up to the first answer not 0.

@@ -6,7 +6,7 @@ pub const A: u64 = 16;
 
 pub const B: u64 = 0;
 
-// A number field. It holds the bit that an enum would have to be turned into at each use: an enum in its place makes a run 5 to 8 % slower.
+// A number field. It holds the bit that an enum would be turned into at each use: with an enum in its place a run takes 2 to 5 % more instructions.
 #[derive(Clone, Copy)]
 pub struct Field {
     bit: u64,
