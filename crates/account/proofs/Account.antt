@@ -14,7 +14,6 @@ use Rattle.laws.proofs.Tests.{and-true}
 use Rattle.program.specs.Program.{instructions, cells}
 use Rattle.metadata.specs.Metadata.{called}
 use Rattle.program.proofs.Program.{cells-le}
-use Rattle.machine.specs.declared.Ceiling.{Ceiling}
 use Rattle.machine.specs.declared.Roster.{Roster}
 use Rattle.machine.specs.declared.Rules.{Rules}
 use Rattle.machine.specs.State.{Machine, Outcome, joined, accepted, refusal, settle}
@@ -24,7 +23,7 @@ use Rattle.machine.specs.Soundness.{sound_header}
 use Rattle.machine.specs.Fresh.{fresh_machine, fresh}
 use Rattle.machine.specs.Load.{loaded, load}
 use Rattle.machine.specs.Step.{core_after, executed, step, executes}
-use Rattle.machine.specs.Run.{plays, ceiling_of, run}
+use Rattle.machine.specs.Run.{Ceiling, plays, ceiling_of, run}
 use Rattle.machine.proofs.Step.{step-writes-three, Executed, is-executed, step-by-cases, step-some}
 use Rattle.machine.proofs.Fresh.{fresh-accepted, fresh-lengths}
 use Rattle.machine.proofs.Load.{Loaded, loadable, is-loaded, load-by-cases}

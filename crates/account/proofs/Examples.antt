@@ -1,5 +1,6 @@
 -- What the program's record and the log of 01's machine come to for three lists of calls, computed.
 -- Assumes nothing.
+use Rattle.std.specs.Prelude.{Some}
 use Prim.Native.Nat.{ℕ}
 use mathlib.Core.Path.{◌≡◌, refl}
 use mathlib.Core.List.{List, [], ◌∷◌, ◌++◌}
@@ -11,7 +12,6 @@ use Rattle.types.specs.Opcode.{DAT, JMP, SPL}
 use Rattle.types.specs.Mode.{Direct, PreDecIndirectB}
 use Rattle.program.specs.Program.{lawful, lowest_fault, cells}
 use Rattle.metadata.specs.Metadata.{called}
-use Rattle.machine.specs.declared.Ceiling.TheVariants.{Steps}
 use Rattle.machine.specs.State.{of_size, Machine}
 use Rattle.machine.specs.Names.{count_of, register, numbered}
 use Rattle.machine.specs.Queue.{entries, entries_of, pop, push, started}
@@ -57,7 +57,7 @@ splitting =
     Load [] (bytes SPL unnamed Direct 2 Direct 0 ++ datum 0 0 ++ bytes DAT unnamed PreDecIndirectB 1 Direct 0) 65535 0
     ∷ Load [] [] 0 8
     ∷ Step
-    ∷ Run (Steps 9)
+    ∷ Run (Some 9)
     ∷ Step
     ∷ []
 

@@ -3,13 +3,12 @@
 use Rattle.std.specs.Prelude.{ℕ, zero, suc, ◌+◌, ◌-◌, cond, List, [], ◌∷◌, eqb}
 use Rattle.program.specs.Program.{instructions}
 use Rattle.metadata.specs.Metadata.{called}
-use Rattle.machine.specs.declared.Ceiling.{Ceiling}
 use Rattle.machine.specs.State.{Machine, Outcome}
 use Rattle.machine.specs.Queue.{front, name_of}
 use Rattle.machine.specs.Soundness.{sound_header}
 use Rattle.machine.specs.Load.{load}
 use Rattle.machine.specs.Step.{step, executes}
-use Rattle.machine.specs.Run.{ceiling_of, run}
+use Rattle.machine.specs.Run.{Ceiling, ceiling_of, run}
 
 -- a single call with its arguments
 pub data Call : Type 0 where

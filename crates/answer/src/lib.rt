@@ -2,11 +2,11 @@
 #![tactic(auto)]
 
 ghost use Rattle.std.specs.Prelude.{◌≡◌};
-ghost use Rattle.answer.specs.Numbers.{told};
+ghost use Rattle.answer.specs.Numbers.{told, told_error};
 
-#[derive(Clone, Copy)]
-pub enum Answer {
-    Done,
+// Why a call is refused, or how a process ended.
+#[derive(Clone, Copy, Debug, PartialEq, Eq)]
+pub enum Error {
     InvalidCoreSize,
     InvalidMemory,
     WarriorTooLong,
@@ -23,48 +23,61 @@ pub enum Answer {
     InvalidLimit,
 }
 
+// The answer of a call: 0 where all went on.
+pub type Answer = Result<(), Error>;
+
+impl Error {
+    // Its number.
+    pub fn number(self) -> u8
+        ensures { result ≡ (told_error self).number }
+    {
+        match self {
+            Error::InvalidCoreSize => 1,
+            Error::InvalidMemory => 2,
+            Error::WarriorTooLong => 3,
+            Error::InvalidCode(_) => 4,
+            Error::InvalidNameOrPlace => 5,
+            Error::NoRoom => 6,
+            Error::NoRemainingProcesses => 7,
+            Error::NumbersExhausted => 8,
+            Error::UnsoundRecord => 9,
+            Error::PrivateMemory => 10,
+            Error::ExecuteDat(_) => 11,
+            Error::DivideByZero => 12,
+            Error::Malformed(_) => 13,
+            Error::InvalidLimit => 14,
+        }
+    }
+
+    // The value given with it: an index, a place or a position; else 0.
+    pub fn value(self) -> usize
+        ensures { result ≡ (told_error self).value }
+    {
+        match self {
+            Error::InvalidCode(index) => index,
+            Error::ExecuteDat(place) => place as usize,
+            Error::Malformed(position) => position,
+            _ => 0,
+        }
+    }
+}
+
 // An answer's number.
 pub fn number(answer: Answer) -> u8
     ensures { result ≡ (told answer).number }
 {
     match answer {
-        Answer::Done => 0,
-        Answer::InvalidCoreSize => 1,
-        Answer::InvalidMemory => 2,
-        Answer::WarriorTooLong => 3,
-        Answer::InvalidCode(_) => 4,
-        Answer::InvalidNameOrPlace => 5,
-        Answer::NoRoom => 6,
-        Answer::NoRemainingProcesses => 7,
-        Answer::NumbersExhausted => 8,
-        Answer::UnsoundRecord => 9,
-        Answer::PrivateMemory => 10,
-        Answer::ExecuteDat(_) => 11,
-        Answer::DivideByZero => 12,
-        Answer::Malformed(_) => 13,
-        Answer::InvalidLimit => 14,
+        Ok(()) => 0,
+        Err(e) => e.number(),
     }
 }
 
-// The value given with it: an index, a place or a position; else 0.
+// The value given with it.
 pub fn value(answer: Answer) -> usize
     ensures { result ≡ (told answer).value }
 {
     match answer {
-        Answer::Done => 0,
-        Answer::InvalidCoreSize => 0,
-        Answer::InvalidMemory => 0,
-        Answer::WarriorTooLong => 0,
-        Answer::InvalidCode(index) => index,
-        Answer::InvalidNameOrPlace => 0,
-        Answer::NoRoom => 0,
-        Answer::NoRemainingProcesses => 0,
-        Answer::NumbersExhausted => 0,
-        Answer::UnsoundRecord => 0,
-        Answer::PrivateMemory => 0,
-        Answer::ExecuteDat(place) => place as usize,
-        Answer::DivideByZero => 0,
-        Answer::Malformed(position) => position,
-        Answer::InvalidLimit => 0,
+        Ok(()) => 0,
+        Err(e) => e.value(),
     }
 }

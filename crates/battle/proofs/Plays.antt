@@ -1,5 +1,6 @@
 -- Playing a file: the machine that runs is sound, and what came of the file is told.
 -- Assumes nothing.
+use Rattle.std.specs.Prelude.{None}
 use Prim.Native.Nat.{ℕ, ◌≤◌, ◌<◌}
 use mathlib.Core.Path.{◌≡◌, refl, sym, ap, ap₂, subst, ◌∙◌}
 use mathlib.Core.Bool.{Bool, true, false, cond, true≢false}
@@ -10,7 +11,6 @@ use borrow.Author.Tests.{lt-ltb, le-ltb, eqb-true, eq-eqb, ne_eqb}
 use Rattle.answer.specs.declared.Answer.{Answer}
 use Rattle.answer.specs.declared.Answer.TheVariants.{InvalidCoreSize, Malformed}
 use Rattle.answer.specs.Numbers.{Told, told}
-use Rattle.machine.specs.declared.Ceiling.TheVariants.{Unsaid}
 use Rattle.machine.specs.declared.Header.{Header}
 use Rattle.machine.specs.declared.Rules.{Rules}
 use Rattle.machine.specs.State.{of_size, Machine, told_by}
@@ -74,7 +74,7 @@ module _ (f : List ℕ) (rules : Rules) (core queue : List ℕ) (a : Answer) {w 
     loads-machine = ap (λ (x : Given). x.machine) loaded
 
     abbrev before-run : Bool → Told → Machine → Result
-    before-run c t k = cond c (ran (run Unsaid k)) (refused t)
+    before-run c t k = cond c (ran (run None k)) (refused t)
 
     goes_on : before-run (eqb (told b).number 0) (told b) n ≡ after_fresh f (fresh rules core queue)
     goes_on =
@@ -91,11 +91,11 @@ module _ (f : List ℕ) (rules : Rules) (core queue : List ℕ) (a : Answer) {w 
     sound : SoundMachine n
     sound = subst SoundMachine (sym loads-machine) (match-keeps m f (subst SoundMachine (sym fresh-machine) (fresh-sound rules core queue zero_is)))
 
-    module _ (answer : Answer) (writes steps : ℕ) (k : Machine) (gave : given (told answer) writes steps k ≡ given_by (run Unsaid n)) where
+    module _ (answer : Answer) (writes steps : ℕ) (k : Machine) (gave : given (told answer) writes steps k ≡ given_by (run None n)) where
       few : k.header.names.held ≤ 16
-      few = subst (λ (x : Machine). x.header.names.held ≤ 16) (sym (ap (λ (x : Given). x.machine) gave)) (run-keeps-sound Unsaid n sound).header.few
+      few = subst (λ (x : Machine). x.header.names.held ≤ 16) (sym (ap (λ (x : Given). x.machine) gave)) (run-keeps-sound None n sound).header.few
 
-      is-ran : played (told answer).number steps writes k.header ≡ ran (run Unsaid n)
+      is-ran : played (told answer).number steps writes k.header ≡ ran (run None n)
       is-ran = ap (λ (x : Given). played x.told.number x.steps x.writes x.machine.header) gave
 
       pub runs : r' ≡ 0 → Comes true answer steps writes k.header (after_fresh f (fresh rules core queue))

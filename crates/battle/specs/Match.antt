@@ -1,9 +1,8 @@
 -- What comes of a match file that is played (01, 'Match file', `play`).
 -- Believed. Assumes nothing.
-use Rattle.std.specs.Prelude.{ℕ, cond, List, eqb, ltb, length, replicate}
+use Rattle.std.specs.Prelude.{ℕ, cond, List, eqb, ltb, length, replicate, None}
 use Rattle.answer.specs.Numbers.{Told, gives}
 use Rattle.machine.specs.declared.Header.{Header}
-use Rattle.machine.specs.declared.Ceiling.TheVariants.{Unsaid}
 use Rattle.machine.specs.State.{of_size, Outcome, told_by}
 use Rattle.machine.specs.Fresh.{fresh}
 use Rattle.machine.specs.Run.{run}
@@ -23,7 +22,7 @@ abbrev pub ran : Outcome → Result
 ran o = played o.number o.steps o.writes o.machine.header
 
 abbrev pub after_loads : Outcome → Result
-after_loads o = cond (eqb o.number 0) (ran (run Unsaid o.machine)) (refused (told_by o))
+after_loads o = cond (eqb o.number 0) (ran (run None o.machine)) (refused (told_by o))
 
 -- loads all, in file order, into M cells of core memory and 2,000 queue entries
 abbrev pub after_fresh : List ℕ → Outcome → Result

@@ -8,11 +8,10 @@ use lib.Dec.{eqb}
 use borrow.Author.Tests.{eqb-true, eq-eqb}
 use Rattle.answer.specs.Numbers.{gives}
 use Rattle.laws.proofs.Every.{◌and◌}
-use Rattle.machine.specs.declared.Ceiling.{Ceiling}
 use Rattle.machine.specs.State.{Machine, Outcome, joined, told_by, Verdict, refusal, first, settle}
 use Rattle.machine.specs.Soundness.{sound_header}
 use Rattle.machine.specs.Step.{executed, step, step_checks}
-use Rattle.machine.specs.Run.{plays, ceiling_of, run}
+use Rattle.machine.specs.Run.{Ceiling, plays, ceiling_of, run}
 use Rattle.machine.proofs.Checks.{number_of}
 use Rattle.machine.proofs.Run.{run-unsound, run-plays, step-counts-one, plays-refused}
 use Rattle.lent.specs.Given.{Given, given_by}

@@ -5,7 +5,7 @@ use Rattle.std.specs.Prelude.{ℕ, ◌≡◌, true, false, List, [], ◌∷◌, 
 use Rattle.std.proofs.Math.Option.{some}
 use Rattle.answer.specs.Numbers.{Told, gives}
 use Rattle.cell.specs.declared.Cell.{Cell}
-use Rattle.machine.specs.declared.Ceiling.{Ceiling}
+use Rattle.machine.specs.Run.{Ceiling}
 use Rattle.machine.specs.declared.Rules.{Rules}
 use Rattle.machine.specs.State.{Machine}
 use Rattle.machine.specs.Soundness.{fresh_checks}

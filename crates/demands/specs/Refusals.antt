@@ -7,14 +7,13 @@ use Rattle.laws.specs.Lists.{among}
 use Rattle.cell.specs.declared.Cell.{Cell}
 use Rattle.cell.specs.Cells.{unpacked}
 use Rattle.types.specs.Defaults.{unnamed, default_of}
-use Rattle.machine.specs.declared.Ceiling.{Ceiling}
 use Rattle.machine.specs.declared.Rules.{Rules}
 use Rattle.machine.specs.State.{Machine, Check, refusal, first, passes}
 use Rattle.machine.specs.Soundness.{sound_header, fresh_checks}
 use Rattle.machine.specs.Fresh.{lent}
 use Rattle.machine.specs.Load.{load_checks}
 use Rattle.machine.specs.Step.{step_checks, executes}
-use Rattle.machine.specs.Run.{plays, ceiling_of, read_checks}
+use Rattle.machine.specs.Run.{Ceiling, plays, ceiling_of, read_checks}
 use Rattle.lent.specs.Given.{Given, given}
 use Rattle.match_format.specs.declared.Fault.TheVariants.{At}
 use Rattle.match_format.specs.Format.{Bytes, IsFile}

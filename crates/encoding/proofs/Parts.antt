@@ -1,18 +1,16 @@
--- Parts of bytes as the code cuts them, and the numbers in them.
+-- The number that bytes spell, with zeros past them.
 -- Assumes nothing.
-use mathlib.Core.Path.{◌≡◌, ap}
-use mathlib.Core.List.{List, [], ◌∷◌}
-use Prim.Native.Nat.{ℕ, zero, suc, ◌+◌, ◌-◌, ◌≤◌}
-use native.Mathlib.Omega.{arith}
-use lib.ListN.{length, take, drop}
-use Rattle.encoding.specs.Bytes.{part}
+use Rattle.std.proofs.Common.{◌≡◌, ℕ, zero, suc, List, [], ◌∷◌, ◌++◌, replicate, drop, arith}
+use Rattle.encoding.specs.Bytes.{value}
 
-module _ (bytes : List ℕ) (start k : ℕ) where
-  pub cut : take (start + k - start) (drop start bytes) ≡ part bytes start k
-  cut = ap (λ (n : ℕ). take n (drop start bytes)) (let e : start + k - start ≡ k = omega arith in e)
+-- zeros spell 0
+zeros : (k n : ℕ) → value (drop k (replicate n 0)) ≡ 0
+zeros zero zero = omega arith
+zeros zero (suc n) = omega (arith, zeros zero n)
+zeros (suc k) zero = omega arith
+zeros (suc k) (suc n) = zeros k n
 
--- a part is no longer than it is asked to be
-take_short : (k : ℕ) (bs : List ℕ) → length (take k bs) ≤ k
-take_short zero bs = omega arith
-take_short (suc k) [] = omega arith
-take_short (suc k) (b ∷ bs) = let h = take_short k bs in omega arith
+-- and add nothing
+pub value-zeros : (bs : List ℕ) (k n : ℕ) → value (bs ++ drop k (replicate n 0)) ≡ value bs
+value-zeros [] k n = zeros k n
+value-zeros (b ∷ bs) k n = omega (arith, value-zeros bs k n)

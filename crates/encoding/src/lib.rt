@@ -11,57 +11,51 @@ pub mod store;
 pub fn number32(b0: u8, b1: u8, b2: u8, b3: u8) -> u32
     ensures { result ≡ value (b0 ∷ b1 ∷ b2 ∷ b3 ∷ []) }
 {
-    b0 as u32 + 256 * (b1 as u32 + 256 * (b2 as u32 + 256 * b3 as u32))
+    u32::from_le_bytes([b0, b1, b2, b3])
 }
 
-// A number of 32 bits as an i32. `!k` is -(k + 1).
+// A number of 32 bits as an i32.
 pub fn signed(n: u32) -> i32
     ensures { result ≡ spec.signed n }
 {
-    if n < 0x8000_0000 {
-        return n as i32;
-    }
-    let k = (0xffff_ffff - n) as i32;
-    !k
+    n.cast_signed()
 }
 
 // The byte at a position, 0 past the end.
 pub fn byte(bytes: &[u8], at: usize) -> u8
     ensures { result ≡ get_or bytes.now at 0 }
 {
-    if at < bytes.len() {
-        return bytes[at];
-    }
-    0
+    bytes.get(at).copied().unwrap_or(0)
 }
 
 // The bytes from a position on, that many or as many as there are.
 pub fn part(bytes: &[u8], start: usize, length: usize) -> &[u8]
     ensures { result.now ≡ spec.part bytes.now start length }
 {
-    let all = bytes.len();
-    if all <= start {
-        return &bytes[all..];
-    }
-    if all - start <= length {
-        return &bytes[start..];
-    }
-    let end = start + length;
-    &bytes[start..end]
+    let rest = &bytes[start.min(bytes.len())..];
+    &rest[..length.min(rest.len())]
+}
+
+// The N bytes at a position, 0 past the end.
+fn bytes_at<const N: usize>(bytes: &[u8], at: usize) -> [u8; N]
+    ensures { value result ≡ value (spec.part bytes.now at N) }
+{
+    let there = part(bytes, at, N);
+    let mut all = [0; N];
+    all[..there.len()].copy_from_slice(there);
+    all
 }
 
 // The number in the two bytes at a position.
 pub fn number16_at(bytes: &[u8], at: usize) -> u16
     ensures { result ≡ value (spec.part bytes.now at 2) }
 {
-    let two = part(bytes, at, 2);
-    number32(byte(two, 0), byte(two, 1), 0, 0) as u16
+    u16::from_le_bytes(bytes_at(bytes, at))
 }
 
 // The number in the four bytes at a position.
 pub fn number32_at(bytes: &[u8], at: usize) -> u32
     ensures { result ≡ value (spec.part bytes.now at 4) }
 {
-    let four = part(bytes, at, 4);
-    number32(byte(four, 0), byte(four, 1), byte(four, 2), byte(four, 3))
+    u32::from_le_bytes(bytes_at(bytes, at))
 }

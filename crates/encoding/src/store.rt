@@ -6,14 +6,7 @@ ghost use Rattle.std.proofs.lemmas.List.Edits.{sets};
 pub fn copy(out: &mut [u8], at: usize, bytes: &[u8])
     ensures { out.new ≡ sets out.old at bytes.now }
 {
-    let mut to = at;
-    let mut i: usize = 0;
-    while i < bytes.len() {
-        if out.len() <= to {
-            return;
-        }
-        out[to] = bytes[i];
-        to += 1;
-        i += 1;
-    }
+    let at = at.min(out.len());
+    let count = bytes.len().min(out.len() - at);
+    out[at..at + count].copy_from_slice(&bytes[..count]);
 }

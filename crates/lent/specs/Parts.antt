@@ -3,7 +3,7 @@
 use Rattle.std.specs.Prelude.{ℕ, Bool, cond, not, ◌&&◌, List, [], eqb, leb, ltb, length, get_or}
 use Rattle.machine.specs.declared.Entry.{Entry}
 use Rattle.machine.specs.declared.Header.{Header}
-use Rattle.machine.specs.declared.Ring.{Ring}
+use Rattle.machine.specs.declared.Processes.{Processes}
 use Rattle.machine.specs.declared.Roster.{Roster}
 use Rattle.machine.specs.declared.Rules.{Rules}
 use Rattle.machine.specs.State.{of_size, Machine}
@@ -18,30 +18,29 @@ machine_of core queue header = record { core = core; queue = queue; header = hea
 abbrev pub names_of : ℕ → List ℕ → List ℕ → Roster
 names_of held bytes lengths = record { held = held; bytes = bytes; lengths = lengths }
 
--- a header of these parts; steps taken play no part in the queue or the names
-abbrev pub header_of : Rules → Ring → Roster → List ℕ → List ℕ → Header
-header_of rules ring names counts threads =
-    record { rules = rules; ring = ring; steps = 0; names = names; counts = counts; threads = threads }
+-- what load and a step change of a header beside its names
+abbrev pub processes_of : Header → Processes
+processes_of h = record { ring = h.ring; steps = h.steps; counts = h.counts; threads = h.threads }
 
--- a machine from the parts that a step is lent
-abbrev pub parts : List ℕ → List ℕ → Rules → Ring → ℕ → Roster → List ℕ → List ℕ → Machine
-parts core queue rules ring steps names counts threads =
-    machine_of core queue (record { rules = rules; ring = ring; steps = steps; names = names; counts = counts; threads = threads })
+-- a header of its parts
+abbrev pub header_of : Rules → Roster → Processes → Header
+header_of rules names p = record { rules = rules; ring = p.ring; steps = p.steps; names = names; counts = p.counts; threads = p.threads }
+
+-- a machine from the parts that a call is lent
+abbrev pub parts : List ℕ → List ℕ → Rules → Roster → Processes → Machine
+parts core queue rules names p = machine_of core queue (header_of rules names p)
 
 -- the same of how many names are held, and not their bytes
-abbrev pub unnamed : List ℕ → List ℕ → Rules → Ring → ℕ → ℕ → List ℕ → List ℕ → Machine
-unnamed core queue rules ring steps held counts threads = parts core queue rules ring steps (names_of held [] []) counts threads
+abbrev pub unnamed : List ℕ → List ℕ → Rules → ℕ → Processes → Machine
+unnamed core queue rules held p = parts core queue rules (names_of held [] []) p
 
-abbrev pub no_ring : Ring
-no_ring = record { head = 0; length = 0 }
+-- names alone, with the processes
+abbrev pub named_of : Roster → Processes → Header
+named_of names p = header_of (of_size 0) names p
 
--- names alone, with their counts and next thread numbers
-abbrev pub named_of : Roster → List ℕ → List ℕ → Header
-named_of names counts threads = header_of (of_size 0) no_ring names counts threads
-
--- a queue alone: its memory and ring, and the counts and next thread numbers of the names
-abbrev pub queue_of : List ℕ → Ring → List ℕ → List ℕ → Machine
-queue_of queue ring counts threads = machine_of [] queue (header_of (of_size 0) ring (names_of 0 [] []) counts threads)
+-- a queue alone: its memory and the processes
+abbrev pub queue_of : List ℕ → Processes → Machine
+queue_of queue p = unnamed [] queue (of_size 0) 0 p
 
 -- the head lies in a queue memory of at most 65,535 entries
 abbrev pub headed : Machine → Bool

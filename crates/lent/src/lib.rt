@@ -1,7 +1,40 @@
-// The parts of a record that a call is lent, put together as 01's machine (definitions in specs/), and the lengths of a header's arrays.
+// The parts of a record that a call is lent, put together as 01's machine (definitions in specs/): a header taken apart and made of its parts.
 #![tactic(auto)]
 
 ghost use Rattle.std.specs.Prelude.{◌≡◌, length};
+ghost use Rattle.lent.specs.Parts.{processes_of, header_of};
+
+use machine::{Header, Processes, Roster, Rules};
+
+// What load and a step change of a header beside its names.
+pub fn processes_of(h: Header) -> Processes
+    ensures { result ≡ processes_of h }
+{
+    let counts = h.counts;
+    let threads = h.threads;
+    Processes {
+        ring: h.ring,
+        steps: h.steps,
+        counts,
+        threads,
+    }
+}
+
+// A header of its parts.
+pub fn header_of(rules: Rules, names: Roster, processes: Processes) -> Header
+    ensures { result ≡ header_of rules names processes }
+{
+    let counts = processes.counts;
+    let threads = processes.threads;
+    Header {
+        rules,
+        ring: processes.ring,
+        steps: processes.steps,
+        names,
+        counts,
+        threads,
+    }
+}
 
 // The lengths of the header's arrays.
 pub fn sized<'a>(

@@ -12,7 +12,6 @@ use Rattle.laws.proofs.Tests.{neither}
 use Rattle.laws.proofs.Lists.{zero-there}
 use Rattle.laws.proofs.Every.{Every, every-or, every_set, every-replicate}
 use Rattle.metadata.specs.Metadata.{called}
-use Rattle.machine.specs.declared.Ceiling.{Ceiling}
 use Rattle.machine.specs.declared.Header.{Header}
 use Rattle.machine.specs.declared.Rules.{Rules}
 use Rattle.machine.specs.State.{Machine, accepted, first}
@@ -21,7 +20,7 @@ use Rattle.machine.specs.Queue.{pop, push, started}
 use Rattle.machine.specs.Fresh.{blank}
 use Rattle.machine.specs.Load.{loaded, load_checks, load}
 use Rattle.machine.specs.Step.{popped, effect, counted, executed, step_checks, step}
-use Rattle.machine.specs.Run.{run}
+use Rattle.machine.specs.Run.{Ceiling, run}
 use Rattle.machine.proofs.Checks.{passed}
 use Rattle.machine.proofs.Load.{placing, load-by-cases}
 use Rattle.machine.proofs.Queueing.{queued-by-cases, any-places}

@@ -10,12 +10,11 @@ use lib.ListN.{drop}
 use Rattle.laws.proofs.Every.{◌and◌}
 use Rattle.offset.specs.Offset.{euclid}
 use Rattle.offset.proofs.Offsets.{euclid-lt}
-use Rattle.machine.specs.declared.Ceiling.{Ceiling}
 use Rattle.machine.specs.State.{Machine}
 use Rattle.machine.specs.Queue.{front}
 use Rattle.machine.specs.Load.{load_checks, load}
 use Rattle.machine.specs.Step.{pc, step_checks, step, executes}
-use Rattle.machine.specs.Run.{run, read}
+use Rattle.machine.specs.Run.{Ceiling, run, read}
 use Rattle.machine.proofs.Checks.{other, Without, others, without}
 use Rattle.machine.proofs.Soundness.{header-sound, size-positive, entry-sound}
 use Rattle.machine.proofs.Pointers.{cell-at}

@@ -1,5 +1,6 @@
 -- Laws of a run: it is 01's 'while' over its steps, and keeps what every step keeps.
 -- Assumes nothing.
+use Rattle.std.specs.Prelude.{Some}
 use Prim.Native.Nat.{ℕ, zero, suc, ◌+◌, ◌-◌, ◌≤◌, ◌<◌}
 use mathlib.Core.Path.{◌≡◌, refl, sym, ap, subst, ◌∙◌}
 use mathlib.Core.Bool.{Bool, true, false, cond, not, true≢false}
@@ -7,12 +8,10 @@ use native.Mathlib.Nat.{add-zero}
 use native.Mathlib.Omega.{arith}
 use lib.Dec.{eqb}
 use borrow.Author.Tests.{eqb-true}
-use Rattle.machine.specs.declared.Ceiling.{Ceiling}
-use Rattle.machine.specs.declared.Ceiling.TheVariants.{Steps}
 use Rattle.machine.specs.State.{Machine, Outcome, done, joined, accepted, refusal, first, settle}
 use Rattle.machine.specs.Soundness.{sound_header}
 use Rattle.machine.specs.Step.{step, step_checks, executes}
-use Rattle.machine.specs.Run.{plays, ceiling_of, run}
+use Rattle.machine.specs.Run.{Ceiling, plays, ceiling_of, run}
 use Rattle.machine.proofs.Checks.{Refused, refused}
 use Rattle.machine.proofs.Names.{Shape}
 use Rattle.machine.proofs.Soundness.{SoundHeader, header-sound}
@@ -62,7 +61,7 @@ module _ (c : Ceiling) (m : Machine) where
       go false s = run-unsound c m s ∙ sym (step-unsound m (plays (ceiling_of c - m.header.steps) m) s)
 
 -- with a ceiling of one more step it is that step
-pub run-one : (m : Machine) → run (Steps (m.header.steps + 1)) m ≡ step m
+pub run-one : (m : Machine) → run (Some (m.header.steps + 1)) m ≡ step m
 run-one m = go (eqb (step m).number 0) (sound_header m) refl refl
   where
     below : m.header.steps < m.header.steps + 1
@@ -82,12 +81,12 @@ run-one m = go (eqb (step m).number 0) (sound_header m) refl refl
           pushes = add-zero (step m).pushes i;
         }
 
-    go : (done sound : Bool) → eqb (step m).number 0 ≡ done → sound_header m ≡ sound → run (Steps (m.header.steps + 1)) m ≡ step m
-    go false s e f = run-stop (Steps (m.header.steps + 1)) m below e
-    go true false e f = run-unsound (Steps (m.header.steps + 1)) m f ∙ sym (step-unsound m (plays ((m.header.steps + 1) - m.header.steps) m) f)
+    go : (done sound : Bool) → eqb (step m).number 0 ≡ done → sound_header m ≡ sound → run (Some (m.header.steps + 1)) m ≡ step m
+    go false s e f = run-stop (Some (m.header.steps + 1)) m below e
+    go true false e f = run-unsound (Some (m.header.steps + 1)) m f ∙ sym (step-unsound m (plays ((m.header.steps + 1) - m.header.steps) m) f)
     go true true e f =
-        run-suc (Steps (m.header.steps + 1)) m f below
-        ∙ ap (λ (b : Bool). cond b (joined (step m) (rest (Steps (m.header.steps + 1)) m)) (step m)) e
+        run-suc (Some (m.header.steps + 1)) m f below
+        ∙ ap (λ (b : Bool). cond b (joined (step m) (rest (Some (m.header.steps + 1)) m)) (step m)) e
         ∙ ap (λ (k : ℕ). joined (step m) (plays k (step m).machine)) none_left
         ∙ alone (eqb-true (step m).number 0 e)
 

@@ -16,7 +16,6 @@ use Rattle.cell.specs.Cells.{fresh_cell, sound_word}
 use Rattle.offset.specs.Offset.{ahead}
 use Rattle.offset.proofs.Offsets.{ahead-lt}
 use Rattle.metadata.specs.Metadata.{called}
-use Rattle.machine.specs.declared.Ceiling.{Ceiling}
 use Rattle.machine.specs.declared.Entry.{Entry}
 use Rattle.machine.specs.declared.Rules.{Rules}
 use Rattle.machine.specs.State.{Machine, accepted, first}
@@ -27,7 +26,7 @@ use Rattle.machine.specs.Fresh.{fresh}
 use Rattle.machine.specs.Load.{origin_of, loaded, load_checks, load}
 use Rattle.machine.specs.Execution.{Next}
 use Rattle.machine.specs.Step.{popped, effect, counted, queued, executed, step_checks, step}
-use Rattle.machine.specs.Run.{run}
+use Rattle.machine.specs.Run.{Ceiling, run}
 use Rattle.machine.proofs.Checks.{accepted-passes}
 use Rattle.machine.proofs.Entries.{packed-place, packed-top}
 use Rattle.machine.proofs.Queue.{tally-pop, every-pop, every-push}

@@ -1,10 +1,8 @@
 -- Run and cell reading (01, 'One step', its last paragraph, and 'What a call gives back').
 -- Believed. Assumes nothing.
-use Rattle.std.specs.Prelude.{ℕ, zero, suc, ◌-◌, not, List, [], ◌∷◌, ℤ, get_or}
+use Rattle.std.specs.Prelude.{ℕ, zero, suc, ◌-◌, not, List, [], ◌∷◌, ℤ, get_or, Option, None, Some}
 use Rattle.offset.specs.Offset.{euclid}
 use Rattle.cell.specs.Cells.{sound_word}
-use Rattle.machine.specs.declared.Ceiling.{Ceiling}
-use Rattle.machine.specs.declared.Ceiling.TheVariants.{Unsaid, Steps}
 use Rattle.machine.specs.State.{Machine, Outcome, done, and_then, Check, check, first, settle}
 use Rattle.machine.specs.Soundness.{sound_header}
 use Rattle.machine.specs.Step.{step}
@@ -14,10 +12,14 @@ abbrev pub plays : ℕ → Machine → Outcome
 plays zero m = done m 0 0
 plays (suc k) m = and_then (step m) (plays k)
 
--- a ceiling on total steps (none: 10,000)
+-- a ceiling on total steps, where one is given
+abbrev pub Ceiling : Type 0
+Ceiling = Option ℕ
+
+-- none: 10,000
 abbrev pub ceiling_of : Ceiling → ℕ
-ceiling_of Unsaid = 10000
-ceiling_of (Steps n) = n
+ceiling_of None = 10000
+ceiling_of (Some n) = n
 
 -- order of run: 9 (header), then its steps, while steps taken are below the ceiling: a step answered 0 counts one
 unfoldable pub run : Ceiling → Machine → Outcome

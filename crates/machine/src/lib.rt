@@ -45,19 +45,21 @@ pub struct Header {
     pub threads: [u32; 16],
 }
 
+// What load and a step change of a header beside its names: the ring, the steps taken, and each name's count and next thread number.
+#[derive(Clone, Copy)]
+pub struct Processes {
+    pub ring: Ring,
+    pub steps: u32,
+    pub counts: [u32; 16],
+    pub threads: [u32; 16],
+}
+
 // A process: its place, its thread number and the index of its name.
 #[derive(Clone, Copy)]
 pub struct Entry {
     pub place: Absolute,
     pub thread: u32,
     pub name: u8,
-}
-
-// A ceiling on total steps.
-#[derive(Clone, Copy)]
-pub enum Ceiling {
-    Unsaid,
-    Steps(u64),
 }
 
 // What fresh, load, step and run give back: an answer, its writes and steps, and the header.

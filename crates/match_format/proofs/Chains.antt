@@ -12,37 +12,36 @@ use Rattle.laws.specs.Lists.{every}
 use Rattle.laws.proofs.Tests.{both}
 use Rattle.laws.proofs.Lists.{fall}
 use Rattle.encoding.specs.Bytes.{part}
-use Rattle.match_format.specs.declared.Fault.{Fault}
-use Rattle.match_format.specs.declared.Fault.TheVariants.{Nowhere, At}
+use Rattle.std.specs.Prelude.{Option, Some, None}
 use Rattle.match_format.specs.Faults.{unless, ◌else◌, field, faulty, within}
 use Rattle.match_format.proofs.Parts.{part-first}
 
 -- a fault is not nowhere
-pub somewhere : {X : Type 0} {p : ℕ} → At p ≡ Nowhere → X
+pub somewhere : {X : Type 0} {p : ℕ} → Some p ≡ None → X
 somewhere e = absurd (let z : ◌≡◌ {A = ℕ} 0 1 = cc in omega arith)
 
-pub else-left : (g h : Fault) → (g else h) ≡ Nowhere → g ≡ Nowhere
-else-left Nowhere h e = refl
-else-left (At p) h e = somewhere e
+pub else-left : (g h : Option ℕ) → (g else h) ≡ None → g ≡ None
+else-left None h e = refl
+else-left (Some p) h e = somewhere e
 
-pub else-right : (g h : Fault) → (g else h) ≡ Nowhere → h ≡ Nowhere
-else-right Nowhere h e = e
-else-right (At p) h e = somewhere e
+pub else-right : (g h : Option ℕ) → (g else h) ≡ None → h ≡ None
+else-right None h e = e
+else-right (Some p) h e = somewhere e
 
-pub unless-true : (b : Bool) (p : ℕ) → unless b p ≡ Nowhere → b ≡ true
+pub unless-true : (b : Bool) (p : ℕ) → unless b p ≡ None → b ≡ true
 unless-true true p e = refl
 unless-true false p e = somewhere e
 
 -- a field that is nowhere faulty is there, and is right
-pub field_fits : (f : List ℕ) (p k : ℕ) (right : Bool) → field f p k right ≡ Nowhere → p + k ≤ length f
+pub field_fits : (f : List ℕ) (p k : ℕ) (right : Bool) → field f p k right ≡ None → p + k ≤ length f
 field_fits f p k right e =
     leb-true (p + k) (length f) (unless-true (leb (p + k) (length f)) (length f) (else-left (unless (leb (p + k) (length f)) (length f)) (unless right p) e))
 
-pub field-right : (f : List ℕ) (p k : ℕ) (right : Bool) → field f p k right ≡ Nowhere → right ≡ true
+pub field-right : (f : List ℕ) (p k : ℕ) (right : Bool) → field f p k right ≡ None → right ≡ true
 field-right f p k right e = unless-true right p (else-right (unless (leb (p + k) (length f)) (length f)) (unless right p) e)
 
 -- a field that may be cut, before one that is
-pub cut : (a : Bool) (n q : ℕ) (g : Fault) → g ≡ At n → ((unless a n else unless true q) else g) ≡ At n
+pub cut : (a : Bool) (n q : ℕ) (g : Option ℕ) → g ≡ Some n → ((unless a n else unless true q) else g) ≡ Some n
 cut true n q g e = e
 cut false n q g e = refl
 
@@ -53,13 +52,13 @@ module _ (right : ℕ → Bool) where
   faulty-first f i end h l = rw (fall end i h, part-first f i (end - (i + 1)) (omega arith))
 
   -- every byte is right
-  pub all_right : (p : ℕ) (bs : List ℕ) → faulty right p bs ≡ Nowhere → every right bs ≡ true
+  pub all_right : (p : ℕ) (bs : List ℕ) → faulty right p bs ≡ None → every right bs ≡ true
   all_right p [] e = refl
   all_right p (b ∷ bs) e =
       rw (unless-true (right b) p (else-left (unless (right b) p) (faulty right (p + 1) bs) e))
       (all_right (p + 1) bs (else-right (unless (right b) p) (faulty right (p + 1) bs) e))
 
-  pub right-all : (p : ℕ) (bs : List ℕ) → every right bs ≡ true → faulty right p bs ≡ Nowhere
+  pub right-all : (p : ℕ) (bs : List ℕ) → every right bs ≡ true → faulty right p bs ≡ None
   right-all p [] e = refl
   right-all p (b ∷ bs) e = let k = both (right b) (every right bs) e in rw k.0 (right-all (p + 1) bs k.1)
 

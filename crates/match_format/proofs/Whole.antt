@@ -10,8 +10,7 @@ use lib.Dec.{leb, ltb, eqb}
 use lib.ListN.{length, get_or}
 use borrow.Author.Tests.{leb-true, ltb-true, eqb-true}
 use Rattle.laws.proofs.Tests.{both}
-use Rattle.match_format.specs.declared.Fault.{Fault}
-use Rattle.match_format.specs.declared.Fault.TheVariants.{Nowhere}
+use Rattle.std.specs.Prelude.{Option, Some, None}
 use Rattle.match_format.specs.Format.{number}
 use Rattle.match_format.specs.Faults.{unless, ◌else◌, field, line_fault, lines_fault, end_fault, fault, fault_at}
 use Rattle.match_format.proofs.Chains.{else-left, else-right, unless-true, field_fits, field-right}
@@ -22,17 +21,17 @@ pub record HeadOk (f : List ℕ) : Type 0 where
   pub low : 1 ≤ get_or f 0 0
   pub high : get_or f 0 0 ≤ 16
   pub null : get_or f 3 0 ≡ 0
-  pub lines : lines_fault f 4 (4 + 43 * get_or f 0 0) (get_or f 0 0) ≡ Nowhere
+  pub lines : lines_fault f 4 (4 + 43 * get_or f 0 0) (get_or f 0 0) ≡ None
 
-pub head_ok : (f : List ℕ) → fault f ≡ Nowhere → HeadOk f
+pub head_ok : (f : List ℕ) → fault f ≡ None → HeadOk f
 unfolding fault
 head_ok f e =
     let n : ℕ = get_or f 0 0 in
     let t : Bool = leb 1 n && leb n 16 in
-    let l : Fault = lines_fault f 4 (4 + 43 * n) n in
-    let f1 : Fault = field f 0 1 t in
-    let f2 : Fault = field f 1 2 true in
-    let f3 : Fault = field f 3 1 (eqb (get_or f 3 0) 0) in
+    let l : Option ℕ = lines_fault f 4 (4 + 43 * n) n in
+    let f1 : Option ℕ = field f 0 1 t in
+    let f2 : Option ℕ = field f 1 2 true in
+    let f3 : Option ℕ = field f 3 1 (eqb (get_or f 3 0) 0) in
     let e1 = else-right f1 (f2 else f3 else l) e in
     let e2 = else-right f2 (f3 else l) e1 in
     let a = else-left f3 l e2 in
@@ -46,20 +45,20 @@ head_ok f e =
     }
 
 -- bodies end at the file's end
-pub end-ok : (f : List ℕ) (s : ℕ) → end_fault f s ≡ Nowhere → s ≡ length f
+pub end-ok : (f : List ℕ) (s : ℕ) → end_fault f s ≡ None → s ≡ length f
 end-ok f s e =
     le_antisymm (leb-true s (length f) (unless-true (leb s (length f)) (length f) (else-left (unless (leb s (length f)) (length f)) (unless (leb (length f) s) s) e)))
     (leb-true (length f) s (unless-true (leb (length f) s) s (else-right (unless (leb s (length f)) (length f)) (unless (leb (length f) s) s) e)))
 
 module _ (f : List ℕ) where
-  pub first-line : (p s n : ℕ) → lines_fault f p s (suc n) ≡ Nowhere → LineOk f p s
+  pub first-line : (p s n : ℕ) → lines_fault f p s (suc n) ≡ None → LineOk f p s
   first-line p s n e = line_ok f p s (else-left (line_fault f p s) (lines_fault f (p + 43) (s + 12 * number f (p + 37) 2) n) (sym (lines_more f p s n) ∙ e))
 
-  pub later-lines : (p s n : ℕ) → lines_fault f p s (suc n) ≡ Nowhere → lines_fault f (p + 43) (s + 12 * number f (p + 37) 2) n ≡ Nowhere
+  pub later-lines : (p s n : ℕ) → lines_fault f p s (suc n) ≡ None → lines_fault f (p + 43) (s + 12 * number f (p + 37) 2) n ≡ None
   later-lines p s n e = else-right (line_fault f p s) (lines_fault f (p + 43) (s + 12 * number f (p + 37) 2) n) (sym (lines_more f p s n) ∙ e)
 
   -- a body starts within the file
-  pub lines_start : (p s n : ℕ) → lines_fault f p s n ≡ Nowhere → s ≤ length f
+  pub lines_start : (p s n : ℕ) → lines_fault f p s n ≡ None → s ≤ length f
   lines_start p s zero e = omega (arith, end-ok f s (sym (lines_none f p s) ∙ e))
   lines_start p s (suc n) e = omega (arith, lines_start (p + 43) (s + 12 * number f (p + 37) 2) n (later-lines p s n e))
 
@@ -69,7 +68,7 @@ module _ (f : List ℕ) where
     pub line : LineOk f q start
     pub ends : start + 12 * number f (q + 37) 2 ≤ length f
 
-  pub line_at : (p s n k : ℕ) → lines_fault f p s n ≡ Nowhere → k < n → LineAt (p + 43 * k)
+  pub line_at : (p s n k : ℕ) → lines_fault f p s n ≡ None → k < n → LineAt (p + 43 * k)
   line_at p s (suc n) zero e h =
       let z : p + 43 * 0 ≡ p = omega arith in
       rw z (record { start = s; line = first-line p s n e; ends = lines_start (p + 43) (s + 12 * number f (p + 37) 2) n (later-lines p s n e) })
@@ -84,7 +83,7 @@ module _ (f : List ℕ) where
     pub below : k < get_or f 0 0
     pub its : LineAt (4 + 43 * k)
 
-  pub warrior-ok : (k : ℕ) → fault_at f k ≡ Nowhere → WarriorOk k
+  pub warrior-ok : (k : ℕ) → fault_at f k ≡ None → WarriorOk k
   warrior-ok k e =
       let h = head_ok f (else-left (fault f) (unless (ltb k (get_or f 0 0)) 0) e) in
       let b = ltb-true k (get_or f 0 0) (unless-true (ltb k (get_or f 0 0)) 0 (else-right (fault f) (unless (ltb k (get_or f 0 0)) 0) e)) in

@@ -1,137 +1,89 @@
 // The first fault of a match file (01, 'Match file'): its fields are checked in file order.
 #![tactic(auto)]
 
-ghost use Rattle.std.specs.Prelude.{◌≡◌, ◌+◌, ◌-◌, ◌*◌, ◌≤◌, length};
+ghost use Rattle.std.specs.Prelude.{◌≡◌, ◌+◌, ◌*◌, ◌^◌, ◌<◌, length};
 ghost use Rattle.encoding.specs.Bytes.{part};
-ghost use Rattle.match_format.specs.Faults.{within, faulty, line_fault, lines_fault, fault, fault_at};
+ghost use Rattle.match_format.specs.Faults.{within, faulty, field, line_fault, lines_fault, end_fault, fault, fault_at};
 
-use encoding::{number16_at, number32_at};
+use encoding::{byte, number16_at, number32_at, part};
 
-// Where the first fault is.
-#[derive(Clone, Copy)]
-pub enum Fault {
-    Nowhere,
-    At(usize),
-}
-
-// Whether a byte is neither below lo nor above hi.
-fn is_within(b: u8, lo: u8, hi: u8) -> bool
-    ensures { result ≡ within lo hi b }
+// Where a field of that many bytes is faulty: at the file's end where it goes past it, and at its first byte where it is not right.
+fn field(file: &[u8], at: usize, size: usize, right: bool) -> Option<usize>
+    requires { at + size < 2 ^ 64 }
+    ensures { result ≡ field file.now at size right }
 {
-    (lo <= b) & (b <= hi)
-}
-
-// The first byte below lo or above hi, of those from one position up to another.
-fn first_outside(file: &[u8], from: usize, end: usize, lo: u8, hi: u8) -> Fault
-    requires { (from ≤ end) × (end ≤ length file.now) }
-    ensures { result ≡ faulty (within lo hi) from (part file.now from (end - from)) }
-{
-    let mut i = from;
-    while i < end {
-        if !is_within(file[i], lo, hi) {
-            return Fault::At(i);
-        }
-        i += 1;
+    if file.len() < at + size {
+        return Some(file.len());
     }
-    Fault::Nowhere
+    (!right).then_some(at)
+}
+
+// The first byte below lo or above hi, of that many from a position on.
+fn first_outside(file: &[u8], at: usize, size: usize, lo: u8, hi: u8) -> Option<usize>
+    ensures { result ≡ faulty (within lo hi) at (part file.now at size) }
+{
+    let bytes = part(file, at, size);
+    let found = bytes.iter().position(|b| !(lo..=hi).contains(b))?;
+    Some(at + found)
 }
 
 // The first fault of a line of the contents, whose body is to start at a position.
-fn line_fault(file: &[u8], at: usize, start: usize) -> Fault
-    requires { at ≤ 692 }
+fn line_fault(file: &[u8], at: usize, start: usize) -> Option<usize>
+    requires { at < 2 ^ 32 }
     ensures { result ≡ line_fault file.now at start }
 {
-    let len = file.len();
-    if len < at + 1 {
-        return Fault::At(len);
-    }
-    let size = file[at] as usize;
-    if size > 32 {
-        return Fault::At(at);
-    }
-    if len < at + 33 {
-        return Fault::At(len);
-    }
+    let size = byte(file, at) as usize;
     let name = at + 1;
     let padding = name + size;
     let end = at + 33;
-    if let Fault::At(p) = first_outside(file, name, padding, 33, 126) {
-        return Fault::At(p);
-    }
-    if let Fault::At(p) = first_outside(file, padding, end, 0, 0) {
-        return Fault::At(p);
-    }
-    if len < at + 37 {
-        return Fault::At(len);
-    }
-    if number32_at(file, end) as usize != start {
-        return Fault::At(end);
-    }
-    if len < at + 43 {
-        return Fault::At(len);
-    }
-    Fault::Nowhere
+    field(file, at, 1, size <= 32)
+        .or_else(|| field(file, name, 32, true))
+        .or_else(|| first_outside(file, name, size, 33, 126))
+        .or_else(|| first_outside(file, padding, 32usize.saturating_sub(size), 0, 0))
+        .or_else(|| field(file, end, 4, number32_at(file, end) as usize == start))
+        .or_else(|| field(file, end + 4, 2, true))
+        .or_else(|| field(file, end + 6, 2, true))
+        .or_else(|| field(file, end + 8, 2, true))
+}
+
+// The bodies end where the file does.
+fn end_fault(file: &[u8], end: usize) -> Option<usize>
+    ensures { result ≡ end_fault file.now end }
+{
+    (file.len() != end).then_some(file.len().min(end))
 }
 
 // The first fault of n lines from the first one on, and of the bodies after them.
-fn lines_fault(file: &[u8], n: usize) -> Fault
-    requires { n ≤ 16 }
+fn lines_fault(file: &[u8], n: u8) -> Option<usize>
     ensures { result ≡ lines_fault file.now 4 (4 + 43 * n) n }
 {
-    let mut at: usize = 4;
-    let mut start = 4 + 43 * n;
-    let mut i: usize = 0;
-    while i < n {
-        if let Fault::At(p) = line_fault(file, at, start) {
-            return Fault::At(p);
+    let mut start = 4 + 43 * n as usize;
+    for line in 0..n {
+        let at = 4 + 43 * line as usize;
+        let fault = line_fault(file, at, start);
+        if fault.is_some() {
+            return fault;
         }
         start += 12 * number16_at(file, at + 37) as usize;
-        at += 43;
-        i += 1;
     }
-    let len = file.len();
-    if len < start {
-        return Fault::At(len);
-    }
-    if len > start {
-        return Fault::At(start);
-    }
-    Fault::Nowhere
+    end_fault(file, start)
 }
 
 // The first fault of a file.
-pub fn first_fault(file: &[u8]) -> Fault
+pub fn first_fault(file: &[u8]) -> Option<usize>
     ensures { result ≡ fault file.now }
 {
-    let len = file.len();
-    if len < 1 {
-        return Fault::At(len);
-    }
-    let n = file[0] as usize;
-    if n < 1 {
-        return Fault::At(0);
-    }
-    if n > 16 {
-        return Fault::At(0);
-    }
-    if len < 4 {
-        return Fault::At(len);
-    }
-    if file[3] != 0 {
-        return Fault::At(3);
-    }
-    lines_fault(file, n)
+    let n = byte(file, 0);
+    let few = (1..=16).contains(&n);
+    field(file, 0, 1, few)
+        .or_else(|| field(file, 1, 2, true))
+        .or_else(|| field(file, 3, 1, byte(file, 3) == 0))
+        .or_else(|| lines_fault(file, n))
 }
 
 // The first fault of a file, or else of a warrior number.
-pub fn first_fault_at(file: &[u8], number: usize) -> Fault
+pub fn first_fault_at(file: &[u8], number: usize) -> Option<usize>
     ensures { result ≡ fault_at file.now number }
 {
-    if let Fault::At(p) = first_fault(file) {
-        return Fault::At(p);
-    }
-    if number < file[0] as usize {
-        return Fault::Nowhere;
-    }
-    Fault::At(0)
+    first_fault(file).or_else(|| (byte(file, 0) as usize <= number).then_some(0))
 }

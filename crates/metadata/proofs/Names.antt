@@ -1,42 +1,26 @@
 -- A name, byte by byte, and what a warrior is called.
 -- Assumes nothing.
-use mathlib.Core.Path.{◌≡◌, refl, sym, ap, ◌∙◌}
-use mathlib.Core.Bool.{Bool, true, false, ◌&&◌}
+use mathlib.Core.Path.{◌≡◌, refl, ap}
+use mathlib.Core.Bool.{Bool, true, ◌&&◌}
 use mathlib.Core.List.{List, [], ◌∷◌}
-use Prim.Native.Nat.{ℕ, ◌+◌, ◌<◌, ◌≤◌}
+use Prim.Native.Nat.{ℕ, ◌≤◌}
 use native.Mathlib.Omega.{arith}
-use lib.ListN.{length, get_or, drop, drop_of_length-le}
+use lib.ListN.{length}
 use lib.Dec.{leb}
-use borrow.Author.Tests.{le-leb, lt-leb, leb-true}
+use borrow.Author.Tests.{le-leb, leb-true}
+use Rattle.std.specs.List.{list_all}
 use Rattle.laws.specs.Lists.{every}
 use Rattle.laws.proofs.Tests.{both}
-use Rattle.laws.proofs.Lists.{drop-first}
 use Rattle.metadata.specs.Metadata.{valid_byte, valid_name, called}
 
-pub long : (name : List ℕ) → 32 < length name → false ≡ valid_name name
-long name h = simp (lt-leb _ _ h)
+-- every test passes, in the words of the library
+pub all-every : (p : ℕ → Bool) (xs : List ℕ) → list_all p xs ≡ every p xs
+all-every p [] = refl
+all-every p (x ∷ xs) = ap (λ (b : Bool). p x && b) (all-every p xs)
 
--- a name of at most 32 bytes whose first i are valid
-pub record From (name : List ℕ) (i : ℕ) : Type 0 where
-  pub short : length name ≤ 32
-  pub within : i ≤ length name
-  pub rest : every valid_byte name ≡ every valid_byte (drop i name)
-
-module _ (name : List ℕ) (i : ℕ) (f : From name i) where
-  pub is : valid_name name ≡ every valid_byte (drop i name)
-  is = simp (le-leb (length name) 32 f.short) f.rest
-
-  next : i < length name → every valid_byte name ≡ (valid_byte (get_or name i 0) && every valid_byte (drop (i + 1) name))
-  next h = f.rest ∙ rw (drop-first name i 0)
-
-  pub found : i < length name → valid_byte (get_or name i 0) ≡ false → false ≡ valid_name name
-  found h e = sym (is ∙ sym f.rest ∙ next h ∙ ap (λ (b : Bool). b && every valid_byte (drop (i + 1) name)) e)
-
-  pub further : i < length name → valid_byte (get_or name i 0) ≡ true → From name (i + 1)
-  further h e = record { short = f.short; within = omega arith; rest = next h ∙ ap (λ (b : Bool). b && every valid_byte (drop (i + 1) name)) e }
-
-  pub over : length name ≤ i → true ≡ valid_name name
-  over h = sym (is ∙ ap (every valid_byte) (drop_of_length-le name h))
+-- a name of at most 32 bytes is valid where its bytes are
+pub short : (name : List ℕ) → length name ≤ 32 → list_all valid_byte name ≡ valid_name name
+short name h = simp (le-leb (length name) 32 h) (all-every valid_byte name)
 
 -- a valid name: its length, and its bytes
 pub valid-name : (name : List ℕ) → valid_name name ≡ true → (length name ≤ 32) × (every valid_byte name ≡ true)

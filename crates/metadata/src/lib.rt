@@ -1,26 +1,24 @@
-// The name of a warrior (01, answer 5).
+// A warrior as it is handed in, and whether its name is valid (01, 'Load' and answer 5).
 #![tactic(auto)]
 
 ghost use Rattle.std.specs.Prelude.{◌≡◌};
 ghost use Rattle.metadata.specs.Metadata.{valid_name};
 
+// A warrior: its name, the bytes of its body, the first instruction to run, and the place in the core of its body.
+#[derive(Clone, Copy)]
+pub struct Warrior<'a> {
+    pub name: &'a [u8],
+    pub body: &'a [u8],
+    pub origin: u16,
+    pub place: u32,
+}
+
+// The bytes of the longest name.
+const LONGEST: usize = 32;
+
 // Whether a name has at most 32 bytes, each of 33 to 126.
 pub fn valid_name(name: &[u8]) -> bool
     ensures { result ≡ valid_name name.now }
 {
-    if name.len() > 32 {
-        return false;
-    }
-    let mut i: usize = 0;
-    while i < name.len() {
-        let b = name[i];
-        if b < 33 {
-            return false;
-        }
-        if b > 126 {
-            return false;
-        }
-        i += 1;
-    }
-    true
+    name.len() <= LONGEST && name.iter().all(|b| (33..=126).contains(b))
 }

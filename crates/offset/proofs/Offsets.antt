@@ -35,9 +35,9 @@ product-fits a b ha hb l =
     let h : a * b ≤ 46340 * 46340 = mul-le-mul x y in
     omega arith
 
--- what `sum` promises for a size of some cells
-pub some-cells : (size s a r : ℕ) → (size ≡ 0 → ⊥) → s ≡ ahead size a r → s ≡ cond (eqb size 0) 0 (ahead size a r)
-some-cells size s a r h e = simp (ne_eqb size 0 h) e
+-- what `remainder` and `ahead` promise for a size of some cells
+pub some-cells : (size s n : ℕ) → (size ≡ 0 → ⊥) → s ≡ n % size → s ≡ cond (eqb size 0) 0 (n % size)
+some-cells size s n h e = simp (ne_eqb size 0 h) e
 
 pub sum_is : (size : ℕ) {s n : ℕ} → (size ≡ 0 → ⊥) → s ≡ cond (eqb size 0) 0 n → s ≡ n
 sum_is size {s} {n} h e = e ∙ simp (ne_eqb size 0 h)

@@ -5,11 +5,11 @@ ghost use Rattle.std.specs.Prelude.{◌≡◌, ◌<◌, ◌%◌, cond, eqb, ltb}
 ghost use Rattle.offset.specs.Offset.{euclid, ahead};
 
 // A place of the core.
-#[derive(Clone, Copy)]
+#[derive(Clone, Copy, Debug, PartialEq, Eq)]
 pub struct Absolute(pub u32);
 
 // A field number, counted from a place.
-#[derive(Clone, Copy)]
+#[derive(Clone, Copy, Debug, PartialEq, Eq)]
 pub struct Relative(pub u32);
 
 // Whether a place is one of a core of that size.
@@ -19,15 +19,20 @@ pub fn within(a: Absolute, size: u32) -> bool
     a.0 < size
 }
 
-// A remainder: a number below the size is its own, which takes no division.
-fn remainder(k: u32, size: u32) -> u32
-    requires { 0 < size }
-    ensures { result ≡ k % size }
+// A remainder, 0 by 0: a number below the size is its own, which takes no division.
+pub fn remainder(n: u64, size: u32) -> u32
+    ensures { result ≡ cond (eqb size 0) 0 (n % size) }
 {
-    if k < size {
-        return k;
+    let m = size as u64;
+    if n < m {
+        let r = n as u32;
+        return r;
     }
-    k % size
+    if m == 0 {
+        return 0;
+    }
+    let r = (n % m) as u32;
+    r
 }
 
 // A number, reduced by Euclidean remainder; 0 in a core of no cells. `!n` is -(n + 1).
@@ -39,16 +44,16 @@ pub fn reduce(n: i32, size: u32) -> Relative
     }
     if n < 0 {
         let k = !n as u32;
-        let r = size - 1 - remainder(k, size);
+        let r = size - 1 - remainder(k as u64, size);
         Relative(r)
     } else {
         let k = n as u32;
-        Relative(remainder(k, size))
+        Relative(remainder(k as u64, size))
     }
 }
 
-// A reduced sum, for numbers below the size by compare and subtract; 0 for a size of 0.
-fn sum(a: u32, b: u32, size: u32) -> u32
+// The reduced sum of two numbers, for numbers below the size by compare and subtract; 0 for a size of 0.
+pub fn ahead(a: u32, b: u32, size: u32) -> u32
     ensures { result ≡ cond (eqb size 0) 0 (ahead size a b) }
 {
     let m = size as u64;
@@ -61,23 +66,19 @@ fn sum(a: u32, b: u32, size: u32) -> u32
         let s = (whole - m) as u32;
         return s;
     }
-    if m == 0 {
-        return 0;
-    }
-    let s = (whole % m) as u32;
-    s
+    remainder(whole, size)
 }
 
 // The one reducing addition: the place that lies a field number past a place.
 pub fn add(a: Absolute, r: Relative, size: u32) -> Absolute
     ensures { result.0 ≡ cond (eqb size 0) 0 (ahead size a.0 r.0) }
 {
-    Absolute(sum(a.0, r.0, size))
+    Absolute(ahead(a.0, r.0, size))
 }
 
 // The reduced sum of two field numbers.
 pub fn plus(a: Relative, b: Relative, size: u32) -> Relative
     ensures { result.0 ≡ cond (eqb size 0) 0 (ahead size a.0 b.0) }
 {
-    Relative(sum(a.0, b.0, size))
+    Relative(ahead(a.0, b.0, size))
 }

@@ -1,10 +1,10 @@
 // The body of a warrior as it is handed in (01, 'Load'): match-file bytes, 12 to an instruction.
 #![tactic(auto)]
 
-ghost use Rattle.std.specs.Prelude.{◌≡◌, ◌≤◌, length, take};
+ghost use Rattle.std.specs.Prelude.{◌≡◌};
 ghost use Rattle.std.proofs.lemmas.List.Edits.{sets};
 ghost use Rattle.cell.specs.Cells.{packed};
-ghost use Rattle.program.specs.Program.{instructions, modifier_of, lawful, lowest_fault, cell_of, cells};
+ghost use Rattle.program.specs.Program.{instructions, modifier_of, lawful, fault_in, cell_of, cells};
 
 use cell::{Cell, pack};
 use encoding::{number32, signed};
@@ -22,67 +22,56 @@ pub fn len(body: &[u8]) -> usize
     bytes / 12 + (bytes % 12 + 11) / 12
 }
 
-// The modifier of the instruction at the front, 255 resolved.
-fn modifier_of(front: &[u8]) -> u8
-    requires { 12 ≤ length front.now }
-    ensures { result ≡ modifier_of (take 12 front.now) }
+// The modifier of an instruction, 255 resolved.
+fn modifier_of(x: &[u8; 12]) -> u8
+    ensures { result ≡ modifier_of x.now }
 {
-    let modifier = front[1];
-    if modifier == UNNAMED {
-        return default_88_to_94(front[0], front[2], front[3]).modifier;
+    if x[1] == UNNAMED {
+        return default_88_to_94(x[0], x[2], x[3]).unwrap_or(UNNAMED);
     }
-    modifier
+    x[1]
 }
 
-// Whether the codes of the instruction at the front are legal.
-fn is_lawful(front: &[u8]) -> bool
-    requires { 12 ≤ length front.now }
-    ensures { result ≡ lawful (take 12 front.now) }
+// Whether the codes of an instruction are legal.
+fn is_lawful(x: &[u8; 12]) -> bool
+    ensures { result ≡ lawful x.now }
 {
-    if front[0] > STP as u8 {
+    if x[0] > STP as u8 || x[2] > POST_INC_INDIRECT_B as u8 || x[3] > POST_INC_INDIRECT_B as u8 {
         return false;
     }
-    if front[2] > POST_INC_INDIRECT_B as u8 {
-        return false;
+    if x[1] == UNNAMED {
+        return has_default(x[0], x[2], x[3]);
     }
-    if front[3] > POST_INC_INDIRECT_B as u8 {
-        return false;
-    }
-    let modifier = front[1];
-    if modifier == UNNAMED {
-        return has_default(front[0], front[2], front[3]);
-    }
-    modifier <= I
+    x[1] <= I
 }
 
-// The lowest index of a faulty instruction; how many there are where none is. One cut short, which is the last, is faulty.
-pub fn lowest_fault(body: &[u8]) -> usize
-    ensures { result ≡ lowest_fault body.now }
+// The lowest index of a faulty instruction, where there is one: one cut short, which is the last, is faulty.
+pub fn lowest_fault(body: &[u8]) -> Option<usize>
+    ensures { result ≡ fault_in body.now }
 {
-    let whole = body.len() / 12;
-    let mut i: usize = 0;
-    while i < whole {
-        let at = 12 * i;
-        if !is_lawful(&body[at..]) {
-            return i;
+    let (whole, cut) = body.as_chunks::<12>();
+    for i in 0..whole.len() {
+        if !is_lawful(&whole[i]) {
+            return Some(i);
         }
-        i += 1;
     }
-    whole
+    if cut.is_empty() {
+        return None;
+    }
+    Some(whole.len())
 }
 
-// The word that the instruction at the front becomes in a core of that size.
-fn word_of(front: &[u8], size: u32) -> u64
-    requires { 12 ≤ length front.now }
-    ensures { result ≡ packed (cell_of size (take 12 front.now)) }
+// The word that an instruction becomes in a core of that size.
+fn word_of(x: &[u8; 12], size: u32) -> u64
+    ensures { result ≡ packed (cell_of size x.now) }
 {
-    let a = number32(front[4], front[5], front[6], front[7]);
-    let b = number32(front[8], front[9], front[10], front[11]);
+    let a = number32(x[4], x[5], x[6], x[7]);
+    let b = number32(x[8], x[9], x[10], x[11]);
     pack(Cell {
-        opcode: front[0],
-        modifier: modifier_of(front),
-        a_mode: front[2],
-        b_mode: front[3],
+        opcode: x[0],
+        modifier: modifier_of(x),
+        a_mode: x[2],
+        b_mode: x[3],
         a: reduce(signed(a), size),
         b: reduce(signed(b), size),
     })
@@ -92,14 +81,9 @@ fn word_of(front: &[u8], size: u32) -> u64
 pub fn write_cells(core: &mut [u64], body: &[u8], size: u32)
     ensures { core.new ≡ sets core.old 0 (cells size body.now) }
 {
-    let count = body.len() / 12;
-    let mut i: usize = 0;
-    while i < count {
-        if core.len() <= i {
-            return;
-        }
-        let at = 12 * i;
-        core[i] = word_of(&body[at..], size);
-        i += 1;
+    let (whole, _) = body.as_chunks::<12>();
+    let count = whole.len().min(core.len());
+    for i in 0..count {
+        core[i] = word_of(&whole[i], size);
     }
 }

@@ -1,5 +1,6 @@
 -- The domain has battles in it: one of eleven calls, refused ones among them, by computation, and what the theorem says of it.
 -- Assumes nothing.
+use Rattle.std.specs.Prelude.{Some}
 use Prim.Native.Nat.{ℕ, ◌^◌, ◌-◌}
 use mathlib.Core.Path.{◌≡◌, refl}
 use mathlib.Core.List.{List, [], ◌∷◌, ◌++◌, map}
@@ -11,7 +12,6 @@ use Rattle.types.specs.Opcode.{DJN, SPL, NOP, LDP}
 use Rattle.types.specs.Modifier as modifier
 use Rattle.types.specs.Mode as mode
 use Rattle.program.specs.Program.{lawful, lowest_fault, cells}
-use Rattle.machine.specs.declared.Ceiling.TheVariants.{Steps}
 use Rattle.machine.specs.State.{of_size, Machine}
 use Rattle.machine.specs.Names.{register, numbered}
 use Rattle.machine.specs.Queue.{entries, pop, push, started}
@@ -42,10 +42,10 @@ calls =
     ∷ Step
     ∷ Step
     ∷ Step
-    ∷ Run (Steps 20)
+    ∷ Run (Some 20)
     ∷ Step
     ∷ Load (66 ∷ []) (bytes NOP unnamed mode.Direct 0 mode.Direct 0 ++ bytes LDP modifier.B mode.Direct 0 mode.Direct 0) 0 0
-    ∷ Run (Steps 30)
+    ∷ Run (Some 30)
     ∷ Step
     ∷ []
 

@@ -1,5 +1,6 @@
 -- A run, from a same state: to a same state, with the Rust's answer.
 -- Assumes nothing.
+use Rattle.std.specs.Prelude.{None, Some}
 use Prim.Native.Nat.{ℕ, zero, suc, ◌+◌, ◌-◌}
 use mathlib.Core.Path.{◌≡◌, refl, sym, ap, ap₂, subst, ◌∙◌}
 use mathlib.Core.Bool.{Bool, true, false, cond}
@@ -7,11 +8,9 @@ use native.Mathlib.Omega.{arith}
 use lib.Dec.{eqb, ltb}
 use borrow.Author.Tests.{eqb-true, lt-ltb}
 use Rattle.laws.proofs.Tests.{neither}
-use Rattle.machine.specs.declared.Ceiling.{Ceiling}
-use Rattle.machine.specs.declared.Ceiling.TheVariants.{Unsaid, Steps}
 use Rattle.machine.specs.State.{Machine, joined}
 use Rattle.machine.specs.Step.{step}
-use Rattle.machine.specs.Run.{plays, ceiling_of, run}
+use Rattle.machine.specs.Run.{Ceiling, plays, ceiling_of, run}
 use Rattle.machine.specs.Whole.{Unlimited}
 use Rattle.machine.proofs.Soundness.{header-sound}
 use Rattle.machine.proofs.Step.{step-executed, step-fixed}
@@ -78,8 +77,8 @@ plays-agree (suc k) max m c s u same q a f =
         one = step-agrees m c s u same a free.0
 
 cycles-are : (ceiling : Ceiling) → max_cycles (cycles_of ceiling) ≡ ceiling_of ceiling
-cycles-are Unsaid = refl
-cycles-are (Steps n) = refl
+cycles-are None = refl
+cycles-are (Some n) = refl
 
 -- the loop goes round as often as our run steps
 turns-are : (ceiling : Ceiling) (m : Machine) (c : Core) → Same m c

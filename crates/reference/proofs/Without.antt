@@ -1,17 +1,16 @@
 -- A call that is answered 4, 5, 6, 8, 9 or 10: the machine is as it was, in a run since its last step, and the Rust is the same without it.
 -- Assumes nothing.
+use Rattle.std.specs.Prelude.{Some}
 use Prim.Native.Nat.{ℕ, ◌-◌}
 use mathlib.Core.Path.{◌≡◌, refl, sym, ap, subst, ◌∙◌}
 use mathlib.Core.Bool.{Bool, true, false, ◌||◌, true≢false, false≢true}
 use native.Mathlib.Omega.{arith}
 use lib.Dec.{eqb}
 use borrow.Author.Tests.{eqb-true}
-use Rattle.machine.specs.declared.Ceiling.{Ceiling}
-use Rattle.machine.specs.declared.Ceiling.TheVariants.{Steps}
 use Rattle.machine.specs.State.{Machine}
 use Rattle.machine.specs.Load.{load}
 use Rattle.machine.specs.Step.{step, executes}
-use Rattle.machine.specs.Run.{plays, ceiling_of, run}
+use Rattle.machine.specs.Run.{Ceiling, plays, ceiling_of, run}
 use Rattle.machine.specs.Whole.{Unlimited}
 use Rattle.machine.proofs.Soundness.{header-sound}
 use Rattle.machine.proofs.Load.{load-refused}
@@ -60,7 +59,7 @@ run-without ceiling m c s u same a f =
     k = (run ceiling m).steps
 
     to : Ceiling
-    to = Steps (run ceiling m).machine.header.steps
+    to = Some (run ceiling m).machine.header.steps
 
     inside : RefusedInside m (run ceiling m)
     inside =

@@ -1,17 +1,15 @@
 -- The Rust's domain (01, its last sentence before 'Departures from the draft'; 02, A.2: both limits M), and the statement that our machine agrees with the Rust there.
 -- Believed. Assumes nothing.
-use Rattle.std.specs.Prelude.{ℕ, zero, suc, ◌-◌, ◌≤◌, ◌≡◌, Bool, true, false, cond, not, ◌&&◌, ◌||◌, List, [], ◌∷◌, eqb}
+use Rattle.std.specs.Prelude.{ℕ, zero, suc, ◌-◌, ◌≤◌, ◌≡◌, Bool, true, false, cond, not, ◌&&◌, ◌||◌, List, [], ◌∷◌, eqb, None, Some}
 use Rattle.std.proofs.Math.Option.{Option, none, some}
 use Rattle.laws.specs.Lists.{among}
-use Rattle.machine.specs.declared.Ceiling.{Ceiling}
-use Rattle.machine.specs.declared.Ceiling.TheVariants.{Unsaid, Steps}
 use Rattle.machine.specs.declared.Rules.{Rules}
 use Rattle.machine.specs.State.{Machine}
 use Rattle.machine.specs.Queue.{full}
 use Rattle.machine.specs.Fresh.{fresh}
 use Rattle.machine.specs.Execution.{Next, ends, goes, splits}
 use Rattle.machine.specs.Step.{popped, effect, step}
-use Rattle.machine.specs.Run.{ceiling_of}
+use Rattle.machine.specs.Run.{Ceiling, ceiling_of}
 use Rattle.machine.specs.Whole.{Unlimited}
 use Rattle.account.specs.Calls.{Call, Load, Step, Run, outcome}
 use Rattle.account.specs.Lists.{Listed, spread}
@@ -67,8 +65,8 @@ Domain (x ∷ xs) m = InDomain (answered (outcome x m).number) x m × Domain xs 
 
 -- the Rust's call
 abbrev pub cycles_of : Ceiling → Option ℕ
-cycles_of Unsaid = none
-cycles_of (Steps n) = some n
+cycles_of None = none
+cycles_of (Some n) = some n
 
 abbrev pub returned : Call → Core → Returned
 returned (Load name body origin place) c = load_warrior (warrior_of name body origin) c

@@ -1,5 +1,6 @@
 -- What run gives of a whole record.
 -- Assumes nothing.
+use Rattle.std.specs.Prelude.{Some}
 use mathlib.Core.Path.{◌≡◌, ap}
 use Prim.Native.Nat.{ℕ}
 use mathlib.Core.Bool.{true, false}
@@ -8,9 +9,7 @@ use Rattle.answer.specs.declared.Answer.TheVariants.{UnsoundRecord}
 use Rattle.answer.specs.Numbers.{told}
 use Rattle.machine.specs.State.{Machine}
 use Rattle.machine.specs.Soundness.{sound_header}
-use Rattle.machine.specs.declared.Ceiling.{Ceiling}
-use Rattle.machine.specs.declared.Ceiling.TheVariants.{Steps}
-use Rattle.machine.specs.Run.{ceiling_of, run}
+use Rattle.machine.specs.Run.{Ceiling, ceiling_of, run}
 use Rattle.lent.specs.Given.{given, given_by}
 use Rattle.steps.proofs.Naming.{Sound}
 
@@ -23,6 +22,6 @@ unfolding run
 unsound-run ceiling m e = simp e
 
 -- a run goes by its ceiling's number
-pub run_by : (ceiling : Ceiling) (m : Machine) {limit : ℕ} → limit ≡ ceiling_of ceiling → given_by (run (Steps limit) m) ≡ given_by (run ceiling m)
+pub run_by : (ceiling : Ceiling) (m : Machine) {limit : ℕ} → limit ≡ ceiling_of ceiling → given_by (run (Some limit) m) ≡ given_by (run ceiling m)
 unfolding run
-run_by ceiling m e = ap (λ (k : ℕ). given_by (run (Steps k) m)) e
+run_by ceiling m e = ap (λ (k : ℕ). given_by (run (Some k) m)) e

@@ -1,5 +1,6 @@
 -- The names' bytes play no part in a step: a header that is ready is sound with some, and beside any with which it is sound a run goes the same way.
 -- Assumes nothing.
+use Rattle.std.specs.Prelude.{Some}
 use Prim.Native.Nat.{ℕ, zero, suc, ◌+◌, ◌-◌, ◌<◌}
 use mathlib.Core.Path.{◌≡◌, refl, sym, ap, subst, ◌∙◌}
 use mathlib.Core.Bool.{Bool, true, false, cond, ◌&&◌}
@@ -11,7 +12,6 @@ use Rattle.laws.specs.Lists.{every, distinct}
 use Rattle.laws.proofs.Numbers.{below}
 use Rattle.laws.proofs.Every.{◌and◌}
 use Rattle.metadata.specs.Metadata.{valid_byte}
-use Rattle.machine.specs.declared.Ceiling.TheVariants.{Steps}
 use Rattle.machine.specs.declared.Entry.{Entry}
 use Rattle.machine.specs.declared.Roster.{Roster}
 use Rattle.machine.specs.declared.Rules.{Rules}
@@ -198,5 +198,5 @@ module _ (bytes lengths : List ℕ) where
       either false = refl
 
   -- a run beside names with which the header is sound
-  pub run-named : (ceiling : ℕ) (m : Machine) → Sound (naming bytes lengths m) → run (Steps ceiling) (naming bytes lengths m) ≡ named (plays_of (ceiling - m.header.steps) m)
-  run-named ceiling m s = run-plays (Steps ceiling) (naming bytes lengths m) s.header ∙ plays-named (ceiling - m.header.steps) m s
+  pub run-named : (ceiling : ℕ) (m : Machine) → Sound (naming bytes lengths m) → run (Some ceiling) (naming bytes lengths m) ≡ named (plays_of (ceiling - m.header.steps) m)
+  run-named ceiling m s = run-plays (Some ceiling) (naming bytes lengths m) s.header ∙ plays-named (ceiling - m.header.steps) m s

@@ -1,10 +1,9 @@
 -- An answer in numbers, a ceiling from numbers, and a cell of its fields.
 -- Believed. Assumes nothing.
-use Rattle.std.specs.Prelude.{ℕ, Bool, true, false}
+use Rattle.std.specs.Prelude.{ℕ, Bool, true, false, None, Some}
 use Rattle.cell.specs.declared.Cell.{Cell}
 use Rattle.cell.specs.Cells.{relative}
-use Rattle.machine.specs.declared.Ceiling.{Ceiling}
-use Rattle.machine.specs.declared.Ceiling.TheVariants.{Unsaid, Steps}
+use Rattle.machine.specs.Run.{Ceiling}
 use Rattle.answer.specs.declared.Answer.{Answer}
 use Rattle.answer.specs.Numbers.{told}
 use Rattle.sumacadze.specs.declared.Report.{Report}
@@ -18,8 +17,8 @@ reported answer writes steps = report (told answer).number (told answer).value w
 
 -- a ceiling, where one is said
 abbrev pub ceiling_if : Bool → ℕ → Ceiling
-ceiling_if true n = Steps n
-ceiling_if false n = Unsaid
+ceiling_if true n = Some n
+ceiling_if false n = None
 
 -- a cell of these fields
 abbrev pub cell_of : ℕ → ℕ → ℕ → ℕ → ℕ → ℕ → Cell

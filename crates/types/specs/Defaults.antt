@@ -1,6 +1,8 @@
 -- The default modifier of an instruction that names none (01, 'Cells'; the draft, A.2.1.2).
 -- Believed. Assumes nothing.
-use Rattle.std.specs.Prelude.{ℕ, Bool, cond, ◌&&◌, [], ◌∷◌, eqb, leb}
+use Rattle.std.specs.Prelude.{ℕ, Bool, cond, ◌&&◌, [], ◌∷◌, eqb, leb, Option, None, Some, Result, Ok, Err}
+use Rattle.answer.specs.declared.Error.{Error}
+use Rattle.answer.specs.declared.Error.TheVariants.{InvalidCode}
 use Rattle.answer.specs.Numbers.{Told, gives}
 use Rattle.laws.specs.Lists.{among}
 use Rattle.types.specs.Opcode.{DAT, MOV, ADD, SUB, MUL, DIV, MOD, JMP, JMZ, JMN, DJN, CMP, SEQ, SNE, SLT, SPL, NOP, STP}
@@ -32,6 +34,14 @@ ranged op a b = leb op STP && leb a PostIncIndirectB && leb b PostIncIndirectB
 abbrev pub default_of : ℕ → ℕ → ℕ → ℕ
 default_of op a b = cond (ranged op a b) (default_modifier op a b) unnamed
 
+-- a default modifier, where there is one
+abbrev pub given : ℕ → Option ℕ
+given modifier = cond (eqb modifier unnamed) None (Some modifier)
+
 -- 4, index 0, where there is none
 abbrev pub told_of : ℕ → Told
 told_of modifier = cond (eqb modifier unnamed) (gives 4 0) (gives 0 0)
+
+-- the same as what a call gives
+abbrev pub defaulted : ℕ → Result ℕ Error
+defaulted modifier = cond (eqb modifier unnamed) (Err (InvalidCode 0)) (Ok modifier)

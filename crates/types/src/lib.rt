@@ -2,18 +2,17 @@
 #![tactic(auto)]
 
 ghost use Rattle.std.specs.Prelude.{◌≡◌, leb};
-ghost use Rattle.answer.specs.Numbers.{told};
-ghost use Rattle.types.specs.Defaults.{ranged, default_modifier, default_of, told_of};
+ghost use Rattle.types.specs.Defaults.{ranged, default_modifier, default_of, given, defaulted};
 ghost use Rattle.types.specs.Modifier.{I};
 ghost use Rattle.types.specs.Types.{field_pairs};
 
 use crate::field::{A, B};
 use crate::mode::{IMMEDIATE, POST_INC_INDIRECT_B};
-use crate::modifier::{AB, F, I, UNNAMED};
+use crate::modifier::{AB, F, I};
 use crate::opcode::{
     ADD, CMP, DAT, DIV, DJN, JMN, JMP, JMZ, LDP, MOD, MOV, MUL, NOP, SEQ, SLT, SNE, SPL, STP, SUB,
 };
-use answer::Answer;
+use answer::Error;
 
 pub mod field;
 pub mod mode;
@@ -29,28 +28,28 @@ fn in_range(opcode: u8, a_mode: u8, b_mode: u8) -> bool
         && b_mode <= POST_INC_INDIRECT_B as u8
 }
 
-// The rule, for codes in range; 255 where it gives none.
-fn default_modifier(opcode: u8, a_mode: u8, b_mode: u8) -> u8
-    ensures { result ≡ default_modifier opcode a_mode b_mode }
+// The rule, for codes in range, where it gives one.
+fn default_modifier(opcode: u8, a_mode: u8, b_mode: u8) -> Option<u8>
+    ensures { result ≡ given (default_modifier opcode a_mode b_mode) }
 {
     match opcode as u64 {
-        DAT => F,
-        JMP | JMZ | JMN | DJN | SPL | NOP => modifier::B,
-        _ if a_mode as u64 == IMMEDIATE => AB,
-        _ if b_mode as u64 == IMMEDIATE => modifier::B,
-        MOV | CMP | SEQ | SNE => I,
-        SLT => modifier::B,
-        ADD | SUB | MUL | DIV | MOD => F,
-        _ => UNNAMED,
+        DAT => Some(F),
+        JMP | JMZ | JMN | DJN | SPL | NOP => Some(modifier::B),
+        _ if a_mode as u64 == IMMEDIATE => Some(AB),
+        _ if b_mode as u64 == IMMEDIATE => Some(modifier::B),
+        MOV | CMP | SEQ | SNE => Some(I),
+        SLT => Some(modifier::B),
+        ADD | SUB | MUL | DIV | MOD => Some(F),
+        _ => None,
     }
 }
 
-// The default modifier of these codes; 255 where there is none, or a code is out of range.
-fn default_of(opcode: u8, a_mode: u8, b_mode: u8) -> u8
-    ensures { result ≡ default_of opcode a_mode b_mode }
+// The default modifier of these codes, where they are in range and have one.
+fn default_of(opcode: u8, a_mode: u8, b_mode: u8) -> Option<u8>
+    ensures { result ≡ given (default_of opcode a_mode b_mode) }
 {
     if !in_range(opcode, a_mode, b_mode) {
-        return UNNAMED;
+        return None;
     }
     default_modifier(opcode, a_mode, b_mode)
 }
@@ -68,28 +67,11 @@ pub fn has_default(opcode: u8, a_mode: u8, b_mode: u8) -> bool
     (a_mode as u64 == IMMEDIATE) | (b_mode as u64 == IMMEDIATE)
 }
 
-// An answer, and the modifier: 255 where it is refused.
-#[derive(Clone, Copy)]
-pub struct Defaulted {
-    pub answer: Answer,
-    pub modifier: u8,
-}
-
 // The default modifier of an instruction that names none.
-pub fn default_88_to_94(opcode: u8, a_mode: u8, b_mode: u8) -> Defaulted
-    ensures { (told result.answer ≡ told_of (default_of opcode a_mode b_mode)) × (result.modifier ≡ default_of opcode a_mode b_mode) }
+pub fn default_88_to_94(opcode: u8, a_mode: u8, b_mode: u8) -> Result<u8, Error>
+    ensures { result ≡ defaulted (default_of opcode a_mode b_mode) }
 {
-    let modifier = default_of(opcode, a_mode, b_mode);
-    if modifier == UNNAMED {
-        return Defaulted {
-            answer: Answer::InvalidCode(0),
-            modifier,
-        };
-    }
-    Defaulted {
-        answer: Answer::Done,
-        modifier,
-    }
+    default_of(opcode, a_mode, b_mode).ok_or(Error::InvalidCode(0))
 }
 
 // By modifier: a's field, and b's field and target, of the first pair; then of the last, the same one where there is one.

@@ -1,9 +1,6 @@
 -- The goals of `names::write_name` that the check leaves.
-use Prim.Native.Nat.{◌*◌}
-use Rattle.names.proofs.Naming.{written-further}
+use Rattle.std.proofs.lemmas.List.{drop-replicate}
 use Rattle.names.proofs.write_name.Goals as goal
 
-pub loop-i-preserved : goal.loop-i-preserved
-loop-i-preserved c =
-    let k = c.loop-i in
-    written-further c.args.name.now c.args.names.now k.names (32 * c.args.slot) k.i c.requires.1 k.invariant c.loop-i-test.true c.byte.ensures
+pub returns : goal.returns
+returns c = rw (c.copy.ensures, c.copy_from_slice.ensures.after, drop-replicate)

@@ -1,26 +1,28 @@
 -- The goals of `program::is_lawful` that the check leaves.
 use mathlib.Core.Path.{refl, ◌∙◌}
+use native.Mathlib.Omega.{arith}
 use lib.ListN.{get_or}
 use Rattle.types.specs.Defaults.{default_of}
 use Rattle.program.proofs.Front.{resolved, named, bad_opcode, bad_a-mode, bad_b-mode, modifier_decides}
 use Rattle.program.proofs.is_lawful.Goals as goal
+use Rattle.program.proofs.is_lawful.Goals.{then-x-via-then-x, then-x-via-else-x+then-x-2, then-x-via-else-x+else-x-2+then-x-3}
 
-pub returns-then-front : goal.returns-then-front
-returns-then-front c = bad_opcode c.args.front.now c.requires c.if-front.true
+pub returns-then-x : goal.returns-then-x
+returns-then-x c =
+    let x = c.args.x.now in
+    elim c.then-x.branch [
+      | then-x-via-then-x w ↦ bad_opcode x (omega arith) w.if-x.true
+      | then-x-via-else-x+then-x-2 w ↦ bad_a-mode x (omega arith) w.if-x-2.true
+      | then-x-via-else-x+else-x-2+then-x-3 w ↦ bad_b-mode x (omega arith) w.if-x-3.true
+    ]
 
-pub returns-then-front-2 : goal.returns-then-front-2
-returns-then-front-2 c = bad_a-mode c.args.front.now c.requires c.if-front-2.true
-
-pub returns-then-front-3 : goal.returns-then-front-3
-returns-then-front-3 c = bad_b-mode c.args.front.now c.requires c.if-front-3.true
-
-pub returns-then-modifier : goal.returns-then-modifier
-returns-then-modifier c =
-    let f = c.args.front.now in
+pub returns-then-x-eq-UNNAMED : goal.returns-then-x-eq-UNNAMED
+returns-then-x-eq-UNNAMED c =
+    let x = c.args.x.now in
     c.has_default.ensures
-    ∙ modifier_decides f c.requires (default_of (get_or f 0 0) (get_or f 2 0) (get_or f 3 0)) (resolved f c.if-modifier.true refl) c.if-front.false c.if-front-2.false c.if-front-3.false
+    ∙ modifier_decides x (omega arith) (default_of (get_or x 0 0) (get_or x 2 0) (get_or x 3 0)) (resolved x c.if-x-eq-UNNAMED.true refl) c.if-x.false c.if-x-2.false c.if-x-3.false
 
 pub returns : goal.returns
 returns c =
-    let f = c.args.front.now in
-    modifier_decides f c.requires (get_or f 1 0) (named f c.if-modifier.false) c.if-front.false c.if-front-2.false c.if-front-3.false
+    let x = c.args.x.now in
+    modifier_decides x (omega arith) (get_or x 1 0) (named x c.if-x-eq-UNNAMED.false) c.if-x.false c.if-x-2.false c.if-x-3.false

@@ -1,25 +1,31 @@
 -- The goals of `program::lowest_fault` that the check leaves.
-use native.Mathlib.Omega.{arith}
-use Prim.Native.Nat.{ℕ, ◌*◌, ◌/◌}
 use mathlib.Core.Path.{◌≡◌, sym, ap, ◌∙◌}
-use mathlib.Core.List.{List}
-use lib.ListN.{length, take}
-use Rattle.laws.proofs.Lists.{to_end}
+use native.Mathlib.Omega.{arith}
+use lib.ListN.{length}
+use borrow.Author.Tests.{eqb-true, eqb-false}
+use Rattle.std.proofs.Common.{Some}
 use Rattle.program.specs.Program.{lawful}
-use Rattle.program.proofs.Bodies.{from_start, further, past_whole}
+use Rattle.program.proofs.Bodies.{from_start, further, found_at, cut_at, none_at, chunk_of}
 use Rattle.program.proofs.lowest_fault.Goals as goal
 
 pub loop-i-init : goal.loop-i-init
-loop-i-init c = (omega arith, from_start c.args.body.now)
+loop-i-init c = from_start c.args.body.now
+
+pub returns-then-not-is_lawful : goal.returns-then-not-is_lawful
+returns-then-not-is_lawful c =
+    found_at c.args.body.now _ c.loop-i.invariant (omega arith)
+    (ap lawful (sym (chunk_of c.args.body.now c.loop-i.i _ c.as_chunks.ensures.front (omega arith))) ∙ sym c.is_lawful.ensures ∙ c.if-not-is_lawful.true)
 
 pub loop-i-preserved : goal.loop-i-preserved
-loop-i-preserved c = (
-  omega arith,
-  further c.args.body.now _ c.loop-i.invariant.1 (omega arith)
-      (ap (λ (xs : List ℕ). lawful (take 12 xs)) (sym (to_end c.args.body.now (12 * c.loop-i.i))) ∙ sym c.is_lawful.ensures ∙ c.if-not-is_lawful.false),
-)
+loop-i-preserved c =
+    further c.args.body.now _ c.loop-i.invariant (omega arith)
+    (ap lawful (sym (chunk_of c.args.body.now c.loop-i.i _ c.as_chunks.ensures.front (omega arith))) ∙ sym c.is_lawful.ensures ∙ c.if-not-is_lawful.false)
+
+pub returns-then-is_empty : goal.returns-then-is_empty
+returns-then-is_empty c = none_at c.args.body.now _ c.loop-i.invariant (omega arith) (sym c.as_chunks.ensures.back_len ∙ eqb-true _ 0 (sym c.is_empty.ensures ∙ c.if-is_empty.true))
 
 pub returns : goal.returns
 returns c =
-    let end : c.loop-i.i ≡ length c.args.body.now / 12 = omega (arith, c.loop-i.invariant.0, c.loop-i-test.false) in
-    sym end ∙ past_whole c.args.body.now c.loop-i.i c.loop-i.invariant.1 end
+    let end : c.loop-i.i ≡ length c.as_chunks.result.0.now = omega arith in
+    ap Some (sym end) ∙ cut_at c.args.body.now _ c.loop-i.invariant (omega arith)
+    (λ none. eqb-false _ 0 (sym c.is_empty.ensures ∙ c.if-is_empty.false) (c.as_chunks.ensures.back_len ∙ none))

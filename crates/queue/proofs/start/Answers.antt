@@ -1,24 +1,18 @@
 -- The goals of `queue::start` that the check leaves.
-use Rattle.queue.proofs.Rings.{no-thread, no_index, not-started, is-started}
+use mathlib.Core.Path.{sym, ◌∙◌}
+use Rattle.queue.proofs.Rings.{no_room, no-thread, is-started}
 use Rattle.queue.proofs.start.Goals as goal
+use Rattle.queue.proofs.start.Goals.{then-not-has_room-via-then-not-has_room, then-not-has_room-via-else-not-has_room+then-processes-who}
 
-pub returns-then-i-ge16 : goal.returns-then-i-ge16
-returns-then-i-ge16 c =
+pub returns-then-not-has_room : goal.returns-then-not-has_room
+returns-then-not-has_room c =
     let a = c.args in
-    no_index a.queue.now a.counts.now a.threads.now a.ring a.place.0 a.name c.if-i-ge16.true
-
-pub returns-then-thread : goal.returns-then-thread
-returns-then-thread c =
-    let a = c.args in
-    no-thread a.queue.now a.counts.now a.threads.now a.ring a.place.0 a.name c.if-thread.true
-
-pub returns-then-after-ring : goal.returns-then-after-ring
-returns-then-after-ring c =
-    let a = c.args in
-    not-started a.queue.now a.counts.now a.threads.now a.ring a.place.0 a.name c.push-after.ensures c.if-after-ring.true
+    elim c.then-not-has_room.branch [
+      | then-not-has_room-via-then-not-has_room w ↦ no_room a.queue.now a.processes.now a.place.0 a.name (sym c.has_room.ensures ∙ w.if-not-has_room.true)
+      | then-not-has_room-via-else-not-has_room+then-processes-who w ↦ no-thread a.queue.now a.processes.now a.place.0 a.name w.if-processes-who.true
+    ]
 
 pub returns : goal.returns
 returns c =
     let a = c.args in
-    is-started a.queue.now a.counts.now a.threads.now a.ring a.place.0 a.name
-    c.push-after.ensures _ c.if-after-ring.false c.if-thread.false c.more.ensures
+    is-started a.queue.now a.processes.now a.place.0 a.name (sym c.has_room.ensures ∙ c.if-not-has_room.false) c.if-processes-who.false c.ahead-at.ensures c.pack.ensures

@@ -1,6 +1,6 @@
 -- The goals of `steps::run_parts` that the check leaves.
+use Rattle.std.specs.Prelude.{Some}
 use mathlib.Core.Path.{sym, ap, ◌∙◌}
-use Rattle.machine.specs.declared.Ceiling.TheVariants.{Steps}
 use Rattle.soundness.proofs.Headers.{by_parts}
 use Rattle.lent.specs.Parts.{names_of, parts, unnamed}
 use Rattle.lent.specs.Given.{Given, given, given_by}
@@ -12,7 +12,7 @@ pub returns-then-not-sound_header : goal.returns-then-not-sound_header
 returns-then-not-sound_header c =
     let a = c.args in
     let m = parts a.core.now a.queue.now a.rules a.ring a.taken (names_of a.held a.names.now a.lengths.now) a.counts.now a.threads.now in
-    unsound-run (Steps a.ceiling) m (sym (c.sound_header.ensures ∙ by_parts m.core m.queue m.header) ∙ c.if-not-sound_header.true)
+    unsound-run (Some a.ceiling) m (sym (c.sound_header.ensures ∙ by_parts m.core m.queue m.header) ∙ c.if-not-sound_header.true)
 
 pub run_loop-requires : goal.run_loop-requires
 run_loop-requires c =

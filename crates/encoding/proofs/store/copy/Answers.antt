@@ -1,8 +1,11 @@
 -- The goals of `encoding::store::copy` that the check leaves.
-use mathlib.Core.Path.{sym, ◌∙◌}
-use lib.ListN.{drop}
-use Rattle.laws.proofs.Lists.{sets-past}
+use Rattle.std.proofs.Common.{◌≡◌, ◌+◌, ◌-◌, ℕ, arith}
+use Rattle.encoding.proofs.Stores.{stored}
 use Rattle.encoding.proofs.store.copy.Goals as goal
 
-pub returns-then-out-to : goal.returns-then-out-to
-returns-then-out-to c = sym (c.loop-i.invariant.1 ∙ sets-past c.loop-i.out c.loop-i.to (drop c.loop-i.i c.args.bytes.now) c.if-out-to.true)
+pub returns : goal.returns
+returns c =
+    let j : ℕ = c.min-at.result in
+    let n : ℕ = c.min-count.result in
+    let e : j + n - j ≡ n = omega arith in
+    rw (c.copy_from_slice.ensures.after, e) (stored c.args.out.now c.args.bytes.now c.args.at j n c.min-at.ensures c.min-count.ensures)

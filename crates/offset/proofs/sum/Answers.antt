@@ -1,8 +1,0 @@
--- The goals of `offset::sum` that the check leaves.
-use native.Mathlib.Omega.{arith}
-use Rattle.laws.proofs.Modulo.{mod-small}
-use Rattle.offset.proofs.Offsets.{some-cells}
-use Rattle.offset.proofs.sum.Goals as goal
-
-pub returns-then-whole-m : goal.returns-then-whole-m
-returns-then-whole-m c = some-cells _ _ _ _ (omega arith) (mod-small c.if-whole-m.true)
