@@ -33,3 +33,7 @@ told_error InvalidLimit = gives 14 0
 abbrev pub told : {A : Type 0} → Result A Error → Told
 told (Ok _) = gives 0 0
 told (Err error) = told_error error
+
+-- the answer of a call that gives no value
+abbrev pub Answer : Type 0
+Answer = Result Unit Error

@@ -1,13 +1,13 @@
 // Read and write limits (02, A.2): rules with both M, which ones fresh takes, and pointers folded by them.
 #![tactic(auto)]
 
-ghost use Rattle.std.specs.Prelude.{◌≡◌, cond, ◌&&◌, ◌+◌, ◌%◌, eqb};
+ghost use Rattle.std.specs.Prelude.{◌≡◌, cond, ◌&&◌, ◌+◌, eqb};
 ghost use Rattle.machine.specs.State.{of_size};
 ghost use Rattle.machine.specs.Pointers as spec;
 ghost use Rattle.machine.specs.Soundness as sound;
 
 use machine::Rules;
-use offset::Relative;
+use offset::{Relative, remainder};
 
 // The rules of a core of that size, with both limits the size.
 pub fn of_size(size: u32) -> Rules
@@ -27,20 +27,14 @@ fn divides(limit: u32, size: u32) -> bool
     if limit == 0 {
         return false;
     }
-    if limit == size {
-        return true;
-    }
-    size % limit == 0
+    limit == size || size % limit == 0
 }
 
 // Whether both limits divide the core's size.
 pub fn valid_limits(rules: Rules) -> bool
     ensures { result ≡ sound.valid_limits rules }
 {
-    if !divides(rules.read, rules.size) {
-        return false;
-    }
-    divides(rules.write, rules.size)
+    divides(rules.read, rules.size) && divides(rules.write, rules.size)
 }
 
 // Whether both limits are the core's size.
@@ -48,20 +42,6 @@ pub fn unlimited(rules: Rules) -> bool
     ensures { result ≡ (eqb rules.read rules.size && eqb rules.write rules.size) }
 {
     (rules.read == rules.size) & (rules.write == rules.size)
-}
-
-// A remainder; a number below the limit needs no division.
-fn remainder(p: u64, limit: u32) -> u32
-    requires { limit ≡ 0 → ⊥ }
-    ensures { result ≡ p % limit }
-{
-    let m = limit as u64;
-    if p < m {
-        let r = p as u32;
-        return r;
-    }
-    let r = (p % m) as u32;
-    r
 }
 
 // A pointer, taken from PC, folded by a limit; 0 for a limit of 0.

@@ -1,36 +1,34 @@
--- What is read of a file: what the line of a warrior tells of it, and what a file without fault tells.
+-- What is read of a file: of one that reads, and of one that does not.
 -- Assumes nothing.
-use Prim.Native.Nat.{ℕ, ◌*◌, ◌<◌}
-use mathlib.Core.Path.{◌≡◌, ap, ◌∙◌}
+use Prim.Native.Nat.{ℕ, ◌<◌}
+use mathlib.Core.Path.{◌≡◌, refl, ap}
 use mathlib.Core.List.{List}
 use borrow.Author.Tests.{lt-ltb}
-use Rattle.encoding.specs.Bytes.{part}
-use Rattle.match_file.specs.declared.Line.{Line}
-use Rattle.match_format.specs.declared.Fault.{Fault}
-use Rattle.match_format.specs.declared.Fault.TheVariants.{Nowhere}
+use Rattle.std.specs.Prelude.{Option, Some, None, Ok, Err}
+use Rattle.answer.specs.declared.Error.{Error}
+use Rattle.answer.specs.declared.Error.TheVariants.{Malformed}
+use Rattle.answer.specs.Numbers.{told, told_error}
 use Rattle.match_format.specs.Faults.{fault, fault_at}
-use Rattle.match_file.specs.Reading.{zeroed, warriors_in, line_in, count_of, warrior_of}
+use Rattle.match_file.specs.Reading.{told_by, unless_malformed, warriors_in}
 
-module _ (f : List ℕ) (k : ℕ) {l : Line} (e : l ≡ line_in f k) where
-  pub name-told : {xs : List ℕ} → xs ≡ part f l.name_start l.name_length → xs ≡ (warrior_of f k).name
-  name-told d = d ∙ ap (λ (x : Line). part f x.name_start x.name_length) e
+-- what is read is of a file without fault
+pub no-fault : {A : Type 0} (x : Option ℕ) (v : A) {w : A} → Ok w ≡ unless_malformed x v → x ≡ None
+no-fault None v d = refl
+no-fault (Some p) v d = cc
 
-  pub body-told : {xs : List ℕ} → xs ≡ part f l.body_start (12 * l.count) → xs ≡ (warrior_of f k).body
-  body-told d = d ∙ ap (λ (x : Line). part f x.body_start (12 * x.count)) e
+pub is_read : {A : Type 0} (x : Option ℕ) (v : A) {w : A} → Ok w ≡ unless_malformed x v → w ≡ v
+is_read None v d = cc
+is_read (Some p) v d = cc
 
-  pub count-told : l.count ≡ count_of f k
-  count-told = ap (λ (x : Line). x.count) e
+-- the answer, and that of a refusal
+pub read-told : {A : Type 0} (x : Option ℕ) (v : A) → told (unless_malformed x v) ≡ told_by x
+read-told None v = refl
+read-told (Some p) v = refl
 
-  pub origin-told : l.origin ≡ (warrior_of f k).origin
-  origin-told = ap (λ (x : Line). x.origin) e
+pub refusal-told : {A : Type 0} (x : Option ℕ) (v : A) {e : Error} → Err e ≡ unless_malformed x v → told_error e ≡ told_by x
+refusal-told None v d = cc
+refusal-told (Some p) v {e} d = ap told_error (let m : e ≡ Malformed p = cc in m)
 
-  pub place-told : l.place ≡ (warrior_of f k).place
-  place-told = ap (λ (x : Line). x.place) e
-
--- a number read of a file without fault
-pub number_read : {x : Fault} {r n : ℕ} → x ≡ Nowhere → r ≡ zeroed x n → r ≡ n
-number_read {n = n} e d = d ∙ ap (λ (x : Fault). zeroed x n) e
-
--- each warrior of it reads
-pub warrior-reads : (f : List ℕ) (i : ℕ) → fault f ≡ Nowhere → i < warriors_in f → fault_at f i ≡ Nowhere
+-- each warrior of a file without fault reads
+pub warrior-reads : (f : List ℕ) (i : ℕ) → fault f ≡ None → i < warriors_in f → fault_at f i ≡ None
 warrior-reads f i e h = rw (e, lt-ltb i (warriors_in f) h)

@@ -8,7 +8,7 @@ use lib.ListN.{length, get_or, drop, take-append-drop}
 use lib.Seq.{drop-length, drop-drop}
 use Rattle.encoding.specs.Bytes.{part}
 use Rattle.program.specs.Program.{instructions}
-use Rattle.match_format.specs.declared.Fault.TheVariants.{Nowhere}
+use Rattle.std.specs.Prelude.{None}
 use Rattle.match_format.specs.Format.{number, Warrior, bodies}
 use Rattle.match_format.specs.Faults.{lines_fault}
 use Rattle.match_file.specs.Reading.{warrior_at, warriors_at}
@@ -34,7 +34,7 @@ module _ (f : List ℕ) where
   count-is q k = rw (length-body q k) (omega arith)
 
   -- the bodies go on to the file's end
-  pub bodies-are : (p s n : ℕ) → lines_fault f p s n ≡ Nowhere → bodies (warriors_at f p n) ≡ drop s f
+  pub bodies-are : (p s n : ℕ) → lines_fault f p s n ≡ None → bodies (warriors_at f p n) ≡ drop s f
   bodies-are p s zero e = sym (ap (λ (k : ℕ). drop k f) (end-ok f s (sym (lines_none f p s) ∙ e)) ∙ drop-length f)
   bodies-are p s (suc n) e =
       let c : ℕ = number f (p + 37) 2 in
@@ -42,7 +42,7 @@ module _ (f : List ℕ) where
       ∙ ap (λ (r : List ℕ). part f s (12 * c) ++ r) (sym (drop-drop (12 * c) s f))
       ∙ take-append-drop (12 * c) (drop s f)
 
-  pub short-names : (p s n : ℕ) → lines_fault f p s n ≡ Nowhere → Short (warriors_at f p n)
+  pub short-names : (p s n : ℕ) → lines_fault f p s n ≡ None → Short (warriors_at f p n)
   short-names p s zero e = tt
   short-names p s (suc n) e =
       let k = first-line f p s n e in (

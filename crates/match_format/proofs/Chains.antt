@@ -1,20 +1,38 @@
 -- Chains of faults: a chain is nowhere where each of its parts is. Bytes that are all right, and the first that is not.
 -- Assumes nothing.
-use mathlib.Core.Path.{◌≡◌, refl, ap₂}
+use mathlib.Core.Path.{◌≡◌, refl, ap, ap₂, ◌∙◌}
 use mathlib.Core.Bool.{Bool, true, false}
 use mathlib.Core.List.{List, [], ◌∷◌}
-use Prim.Native.Nat.{ℕ, zero, suc, ◌+◌, ◌-◌, ◌≤◌, ◌<◌}
+use Prim.Native.Nat.{ℕ, zero, suc, ◌+◌, ◌≤◌}
 use native.Mathlib.Omega.{arith}
 use lib.Dec.{leb}
-use lib.ListN.{length, get_or, replicate}
+use lib.ListN.{length, replicate}
 use borrow.Author.Tests.{leb-true}
 use Rattle.laws.specs.Lists.{every}
 use Rattle.laws.proofs.Tests.{both}
-use Rattle.laws.proofs.Lists.{fall}
-use Rattle.encoding.specs.Bytes.{part}
-use Rattle.std.specs.Prelude.{Option, Some, None}
+use Rattle.std.specs.Prelude.{Option, Some, None, MatchOption, option_map, is_some, position, not, cond}
+use Rattle.std.specs.List.{position_from}
+use Rattle.std.proofs.lemmas.Iterator.Adapters.{position_from-zero}
 use Rattle.match_format.specs.Faults.{unless, ◌else◌, field, faulty, within}
-use Rattle.match_format.proofs.Parts.{part-first}
+
+-- what the code's `or_else` gives
+pub or_else : {P : Type 0} (o r x : Option ℕ) → MatchOption o P (λ p. r ≡ Some p) → (P → r ≡ x) → r ≡ (o else x)
+or_else None r x h e = e h
+or_else (Some p) r x h e = h
+
+-- and what follows it
+pub then : (o r x y : Option ℕ) → r ≡ (o else x) → (r else y) ≡ (o else x else y)
+then None r x y e = ap (λ o. o else y) e
+then (Some p) r x y e = ap (λ o. o else y) e
+
+-- of a fault, and of none, before another
+pub some-else : (g h : Option ℕ) → is_some g ≡ true → (g else h) ≡ g
+some-else (Some p) h e = refl
+some-else None h e = cc
+
+pub none-else : (g h : Option ℕ) → is_some g ≡ false → (g else h) ≡ h
+none-else None h e = refl
+none-else (Some p) h e = cc
 
 -- a fault is not nowhere
 pub somewhere : {X : Type 0} {p : ℕ} → Some p ≡ None → X
@@ -40,16 +58,18 @@ field_fits f p k right e =
 pub field-right : (f : List ℕ) (p k : ℕ) (right : Bool) → field f p k right ≡ None → right ≡ true
 field-right f p k right e = unless-true right p (else-right (unless (leb (p + k) (length f)) (length f)) (unless right p) e)
 
--- a field that may be cut, before one that is
-pub cut : (a : Bool) (n q : ℕ) (g : Option ℕ) → g ≡ Some n → ((unless a n else unless true q) else g) ≡ Some n
-cut true n q g e = e
-cut false n q g e = refl
-
 module _ (right : ℕ → Bool) where
-  -- the first of the bytes left, and the others
-  pub faulty-first : (f : List ℕ) (i end : ℕ) → i < end → end ≤ length f
-      → faulty right i (part f i (end - i)) ≡ (unless (right (get_or f i 0)) i else faulty right (i + 1) (part f (i + 1) (end - (i + 1))))
-  faulty-first f i end h l = rw (fall end i h, part-first f i (end - (i + 1)) (omega arith))
+  -- the first that is not right, counted from a position
+  counted : (p i : ℕ) (bs : List ℕ) → option_map (λ k. p + k) (position_from (λ b. not (right b)) i bs) ≡ faulty right (p + i) bs
+  counted p i [] = refl
+  counted p i (b ∷ bs) = elim (right b) as (λ t. option_map (λ k. p + k) (cond (not t) (Some i) (position_from (λ b. not (right b)) (i + 1) bs)) ≡ (unless t (p + i) else faulty right (p + i + 1) bs)) [
+    | true ↦ counted p (i + 1) bs ∙ (let e : p + (i + 1) ≡ p + i + 1 = omega arith in rw e)
+    | false ↦ refl
+  ]
+
+  -- and as the code finds it
+  pub found : (p : ℕ) (bs : List ℕ) (r : Option ℕ) → r ≡ position (λ b. not (right b)) bs → option_map (λ k. p + k) r ≡ faulty right p bs
+  found p bs r e = ap (option_map (λ k. p + k)) (e ∙ position_from-zero (λ b. not (right b)) bs) ∙ counted p 0 bs ∙ (let z : p + 0 ≡ p = omega arith in rw z)
 
   -- every byte is right
   pub all_right : (p : ℕ) (bs : List ℕ) → faulty right p bs ≡ None → every right bs ≡ true

@@ -10,7 +10,7 @@ use lib.Dec.{leb, ltb, eqb}
 use lib.ListN.{length, get_or}
 use borrow.Author.Tests.{leb-true, ltb-true, eqb-true}
 use Rattle.laws.proofs.Tests.{both}
-use Rattle.std.specs.Prelude.{Option, Some, None}
+use Rattle.std.specs.Prelude.{Option, None}
 use Rattle.match_format.specs.Format.{number}
 use Rattle.match_format.specs.Faults.{unless, ◌else◌, field, line_fault, lines_fault, end_fault, fault, fault_at}
 use Rattle.match_format.proofs.Chains.{else-left, else-right, unless-true, field_fits, field-right}

@@ -4,6 +4,7 @@ use Rattle.std.specs.Prelude.{ℕ, ◌+◌, ◌-◌, ◌*◌, ◌≤◌, ◌<◌
 use Rattle.encoding.specs.Bytes.{part, value, spelled}
 use Rattle.program.specs.Program.{instructions}
 use Rattle.metadata.specs.Metadata.{valid_name}
+use Rattle.metadata.specs.declared.Warrior.{Warrior as Handed}
 
 -- a byte is below 256
 abbrev pub Bytes : List ℕ → Type 0
@@ -22,6 +23,10 @@ pub record Warrior : Type 0 where
 
 abbrev pub warrior : List ℕ → List ℕ → ℕ → ℕ → Warrior
 warrior name body origin place = record { name = name; body = body; origin = origin; place = place }
+
+-- one as it is handed in
+abbrev pub handed : Handed → Warrior
+handed w = warrior w.name.now w.body.now w.origin w.place
 
 -- a line of 43 bytes: name length (1), name (32, zero padded), body start (4), instruction count (2), origin (2), place (2)
 unfoldable pub line : List ℕ → ℕ → ℕ → ℕ → ℕ → List ℕ

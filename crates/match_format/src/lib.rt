@@ -7,7 +7,7 @@ ghost use Rattle.match_format.specs.Faults.{within, faulty, field, line_fault, l
 
 use encoding::{byte, number16_at, number32_at, part};
 
-// Where a field of that many bytes is faulty: at the file's end where it goes past it, and at its first byte where it is not right.
+// The fault of a field of that many bytes: the file's length where it goes past the end, and its first byte where it is not right.
 fn field(file: &[u8], at: usize, size: usize, right: bool) -> Option<usize>
     requires { at + size < 2 ^ 64 }
     ensures { result ≡ field file.now at size right }
@@ -22,9 +22,10 @@ fn field(file: &[u8], at: usize, size: usize, right: bool) -> Option<usize>
 fn first_outside(file: &[u8], at: usize, size: usize, lo: u8, hi: u8) -> Option<usize>
     ensures { result ≡ faulty (within lo hi) at (part file.now at size) }
 {
-    let bytes = part(file, at, size);
-    let found = bytes.iter().position(|b| !(lo..=hi).contains(b))?;
-    Some(at + found)
+    part(file, at, size)
+        .iter()
+        .position(|b| !(lo..=hi).contains(b))
+        .map(|i| at + i)
 }
 
 // The first fault of a line of the contents, whose body is to start at a position.
@@ -35,18 +36,22 @@ fn line_fault(file: &[u8], at: usize, start: usize) -> Option<usize>
     let size = byte(file, at) as usize;
     let name = at + 1;
     let padding = name + size;
-    let end = at + 33;
     field(file, at, 1, size <= 32)
         .or_else(|| field(file, name, 32, true))
         .or_else(|| first_outside(file, name, size, 33, 126))
         .or_else(|| first_outside(file, padding, 32usize.saturating_sub(size), 0, 0))
-        .or_else(|| field(file, end, 4, number32_at(file, end) as usize == start))
-        .or_else(|| field(file, end + 4, 2, true))
-        .or_else(|| field(file, end + 6, 2, true))
-        .or_else(|| field(file, end + 8, 2, true))
+        .or_else(|| field(
+            file,
+            at + 33,
+            4,
+            number32_at(file, at + 33) as usize == start,
+        ))
+        .or_else(|| field(file, at + 37, 2, true))
+        .or_else(|| field(file, at + 39, 2, true))
+        .or_else(|| field(file, at + 41, 2, true))
 }
 
-// The bodies end where the file does.
+// The fault of bodies that end there: the file's length where that is less, and the first extra byte where it is more.
 fn end_fault(file: &[u8], end: usize) -> Option<usize>
     ensures { result ≡ end_fault file.now end }
 {
@@ -74,8 +79,7 @@ pub fn first_fault(file: &[u8]) -> Option<usize>
     ensures { result ≡ fault file.now }
 {
     let n = byte(file, 0);
-    let few = (1..=16).contains(&n);
-    field(file, 0, 1, few)
+    field(file, 0, 1, (1..=16).contains(&n))
         .or_else(|| field(file, 1, 2, true))
         .or_else(|| field(file, 3, 1, byte(file, 3) == 0))
         .or_else(|| lines_fault(file, n))

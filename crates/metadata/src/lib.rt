@@ -2,7 +2,7 @@
 #![tactic(auto)]
 
 ghost use Rattle.std.specs.Prelude.{◌≡◌};
-ghost use Rattle.metadata.specs.Metadata.{valid_name};
+ghost use Rattle.metadata.specs.Metadata.{valid_name, called};
 
 // A warrior: its name, the bytes of its body, the first instruction to run, and the place in the core of its body.
 #[derive(Clone, Copy)]
@@ -21,4 +21,14 @@ pub fn valid_name(name: &[u8]) -> bool
     ensures { result ≡ valid_name name.now }
 {
     name.len() <= LONGEST && name.iter().all(|b| (33..=126).contains(b))
+}
+
+// What a warrior is called: by its name, or Warrior0 where that is empty.
+pub fn called(name: &[u8]) -> &[u8]
+    ensures { result.now ≡ called name.now }
+{
+    if name.is_empty() {
+        return b"Warrior0";
+    }
+    name
 }

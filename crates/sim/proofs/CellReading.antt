@@ -22,13 +22,9 @@ use Rattle.machine.specs.Run.{word_at, read}
 use Rattle.machine.proofs.Soundness.{tested}
 
 module _ (m : Machine) (z : ℤ) where
-  -- what is told of a cell, and the cell
-  abbrev pub Reads : Cell → ℕ → Type 0
-  Reads c n = (gives n 0 ≡ gives (read m z).number 0) × (c ≡ unpacked (read m z).value)
-
-  pub unsound-header : {c : Cell} → c ≡ unpacked 0 → sound_header m ≡ false → Reads c 9
+  pub unsound-header : sound_header m ≡ false → gives 9 0 ≡ gives (read m z).number 0
   unfolding read
-  unsound-header p e = (simp e, p ∙ simp e)
+  unsound-header e = simp e
 
   module _ (s : sound_header m ≡ true) where
     tests : (leb 1 m.header.rules.size ≡ true) × (m.header.rules.size ≡ length m.core)
@@ -48,13 +44,15 @@ module _ (m : Machine) (z : ℤ) where
     pub place-lt : {p : ℕ} → p ≡ euclid z m.header.rules.size → p < length m.core
     place-lt {p} e = rw (e, ← tests.1) (euclid-lt z m.header.rules.size positive)
 
-    pub unsound-cell : {c : Cell} {p : ℕ} → c ≡ unpacked 0 → p ≡ euclid z m.header.rules.size → sound_word m.header.rules.size (get_or m.core p 0) ≡ false → Reads c 9
+    pub unsound-cell : {p : ℕ} → p ≡ euclid z m.header.rules.size → sound_word m.header.rules.size (get_or m.core p 0) ≡ false → gives 9 0 ≡ gives (read m z).number 0
     unfolding read
-    unsound-cell {c} {p} q e f =
+    unsound-cell {p} e f =
         let g : sound_word m.header.rules.size (word_at m z) ≡ false = ap (λ (k : ℕ). sound_word m.header.rules.size (get_or m.core k 0)) (sym e) ∙ f in
-        (simp (s, g), q ∙ simp (s, g))
+        simp (s, g)
 
-    pub reads : {c : Cell} {p : ℕ} → c ≡ unpacked (get_or m.core p 0) → p ≡ euclid z m.header.rules.size → sound_word m.header.rules.size (get_or m.core p 0) ≡ true → Reads c 0
+    -- what is told of a cell that is read, and the cell
+    pub reads : {c : Cell} {p : ℕ} → c ≡ unpacked (get_or m.core p 0) → p ≡ euclid z m.header.rules.size → sound_word m.header.rules.size (get_or m.core p 0) ≡ true
+        → (gives 0 0 ≡ gives (read m z).number 0) × (c ≡ unpacked (read m z).value)
     unfolding read
     reads {c} {p} q e f =
         let g : sound_word m.header.rules.size (word_at m z) ≡ true = ap (λ (k : ℕ). sound_word m.header.rules.size (get_or m.core k 0)) (sym e) ∙ f in

@@ -6,8 +6,9 @@ use mathlib.Core.List.{List}
 use Prim.Native.Nat.{ℕ}
 use lib.Dec.{eqb}
 use lib.ListN.{length, replicate}
-use Rattle.answer.specs.declared.Answer.TheVariants.{Done, InvalidCoreSize, InvalidMemory, InvalidLimit}
-use Rattle.answer.specs.Numbers.{told}
+use Rattle.std.proofs.Common.{Err}
+use Rattle.answer.specs.declared.Error.TheVariants.{InvalidCoreSize, InvalidMemory, InvalidLimit}
+use Rattle.answer.specs.Numbers.{told, gives}
 use Rattle.cell.specs.Cells.{fresh_cell}
 use Rattle.machine.specs.declared.Header.{Header}
 use Rattle.machine.specs.declared.Rules.{Rules}
@@ -18,23 +19,23 @@ use Rattle.lent.specs.Parts.{machine_of}
 use Rattle.lent.specs.Given.{given, given_by}
 
 module _ (rules : Rules) (core queue : List ℕ) where
-  pub bad-size : not (valid_size rules.size) ≡ true → given (told InvalidCoreSize) 0 0 (machine_of core queue (blank (of_size 0))) ≡ given_by (fresh rules core queue)
+  pub bad-size : not (valid_size rules.size) ≡ true → given (told {A = Unit} (Err InvalidCoreSize)) 0 0 (machine_of core queue (blank (of_size 0))) ≡ given_by (fresh rules core queue)
   unfolding fresh
   bad-size t = rw t
 
   module _ (v : not (valid_size rules.size) ≡ false) where
     pub bad-memory : (not (eqb (length core) rules.size) || not (valid_queue (length queue))) ≡ true
-        → given (told InvalidMemory) 0 0 (machine_of core queue (blank (of_size 0))) ≡ given_by (fresh rules core queue)
+        → given (told {A = Unit} (Err InvalidMemory)) 0 0 (machine_of core queue (blank (of_size 0))) ≡ given_by (fresh rules core queue)
     unfolding fresh
     bad-memory t = rw (v, t)
 
     module _ (z : (not (eqb (length core) rules.size) || not (valid_queue (length queue))) ≡ false) where
-      pub bad-limit : valid_limits rules ≡ false → given (told InvalidLimit) 0 0 (machine_of core queue (blank (of_size 0))) ≡ given_by (fresh rules core queue)
+      pub bad-limit : valid_limits rules ≡ false → given (told {A = Unit} (Err InvalidLimit)) 0 0 (machine_of core queue (blank (of_size 0))) ≡ given_by (fresh rules core queue)
       unfolding fresh
       bad-limit t = rw (v, z, t)
 
       pub made : valid_limits rules ≡ true → {core' queue' : List ℕ} {w : ℕ} {h : Header}
           → w ≡ fresh_cell → core' ≡ replicate (length core) w → queue' ≡ replicate (length queue) 0 → h ≡ blank rules
-          → given (told Done) 0 0 (machine_of core' queue' h) ≡ given_by (fresh rules core queue)
+          → given (gives 0 0) 0 0 (machine_of core' queue' h) ≡ given_by (fresh rules core queue)
       unfolding fresh
       made t ew ec eq eh = rw (v, z, t) (cc)

@@ -1,4 +1,3 @@
-pub mod Filling
 pub mod Refusals
 pub mod FreshMachine
 pub mod CellReading

@@ -3,8 +3,7 @@
 use Prim.Native.Nat.{ℕ}
 use mathlib.Core.Path.{◌≡◌, ap, ap₂, ◌∙◌}
 use mathlib.Core.List.{List}
-use Rattle.answer.specs.declared.Answer.{Answer}
-use Rattle.answer.specs.Numbers.{told}
+use Rattle.answer.specs.Numbers.{Answer, told}
 use Rattle.machine.specs.declared.Header.{Header}
 use Rattle.lent.specs.Parts.{machine_of}
 use Rattle.lent.specs.Given.{Given, given}

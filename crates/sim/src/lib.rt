@@ -1,7 +1,7 @@
 // A fresh machine, and cell reading (01, 'Queue and names', 'What a call gives back').
 #![tactic(auto)]
 
-ghost use Rattle.std.specs.Prelude.{◌≡◌};
+ghost use Rattle.std.specs.Prelude.{◌≡◌, IfOk, Err};
 ghost use Rattle.answer.specs.Numbers.{told, gives};
 ghost use Rattle.cell.specs.Cells.{unpacked};
 ghost use Rattle.machine.specs.State.{of_size};
@@ -10,15 +10,14 @@ ghost use Rattle.machine.specs.Run as run;
 ghost use Rattle.lent.specs.Parts.{machine_of};
 ghost use Rattle.lent.specs.Given.{given, given_by};
 
-use answer::Answer;
+use answer::{Answer, Error};
 use cell::{Cell, fresh_cell, sound, unpack};
 use fold::{of_size, valid_limits};
+use lent::processes_of;
 use machine::limits::{LARGEST_CORE, MOST_ENTRIES};
 use machine::{Header, Outcome, Ring, Roster, Rules};
 use offset::{Absolute, add, reduce};
 use soundness::sound_header;
-
-mod memory;
 
 // A header with these rules, and everything else 0.
 pub fn blank(rules: Rules) -> Header
@@ -51,10 +50,10 @@ pub fn refuse(answer: Answer, h: Header) -> Outcome
 }
 
 // A refusal of a fresh machine: a header of zeros.
-fn no_machine(answer: Answer) -> Outcome
-    ensures { (result.answer ≡ answer) × (result.writes ≡ 0) × (result.steps ≡ 0) × (result.header ≡ spec.blank (of_size 0)) }
+fn no_machine(error: Error) -> Outcome
+    ensures { (result.answer ≡ Err error) × (result.writes ≡ 0) × (result.steps ≡ 0) × (result.header ≡ spec.blank (of_size 0)) }
 {
-    refuse(answer, blank(of_size(0)))
+    refuse(Err(error), blank(of_size(0)))
 }
 
 // A fresh machine: fresh cells, zeros in the queue memory, and its header.
@@ -64,64 +63,39 @@ pub fn fresh(rules: Rules, core: &mut [u64], queue: &mut [u64]) -> Outcome
 {
     let size = rules.size;
     if !((1 <= size) & (size <= LARGEST_CORE)) {
-        return no_machine(Answer::InvalidCoreSize);
+        return no_machine(Error::InvalidCoreSize);
     }
     let slots = queue.len();
     let limited = (1 <= slots) & (slots <= MOST_ENTRIES);
     if (core.len() != size as usize) | !limited {
-        return no_machine(Answer::InvalidMemory);
+        return no_machine(Error::InvalidMemory);
     }
     if !valid_limits(rules) {
-        return no_machine(Answer::InvalidLimit);
+        return no_machine(Error::InvalidLimit);
     }
-    memory::fill(core, fresh_cell());
-    memory::fill(queue, 0);
+    core.fill(fresh_cell());
+    queue.fill(0);
     Outcome {
-        answer: Answer::Done,
+        answer: Ok(()),
         writes: 0,
         steps: 0,
         header: blank(rules),
     }
 }
 
-// A cell that was read, all zero where it was refused.
-#[derive(Clone, Copy)]
-pub struct Reading {
-    pub answer: Answer,
-    pub cell: Cell,
-}
-
 // The cell at any number, reduced.
-pub fn get(core: &[u64], queue: &[u64], h: Header, number: i32) -> Reading
-    ensures { (told result.answer ≡ gives (run.read (machine_of core.now queue.now h) number).number 0)
-        × (result.cell ≡ unpacked (run.read (machine_of core.now queue.now h) number).value) }
+pub fn get(core: &[u64], queue: &[u64], h: Header, number: i32) -> Result<Cell, Error>
+    ensures answer { told result ≡ gives (run.read (machine_of core.now queue.now h) number).number 0 }
+    ensures cell { IfOk result (λ c. c ≡ unpacked (run.read (machine_of core.now queue.now h) number).value) }
 {
-    if !sound_header(
-        core,
-        queue,
-        h.rules,
-        h.ring,
-        h.names.held,
-        &h.names.bytes,
-        &h.names.lengths,
-        &h.counts,
-    ) {
-        return Reading {
-            answer: Answer::UnsoundRecord,
-            cell: unpack(0),
-        };
+    if !sound_header(core, queue, h.rules, &h.names, &processes_of(h)) {
+        return Err(Error::UnsoundRecord);
     }
     let place = add(Absolute(0), reduce(number, h.rules.size), h.rules.size);
     let at = place.0 as usize;
     let w = core[at];
     if !sound(w, h.rules.size) {
-        return Reading {
-            answer: Answer::UnsoundRecord,
-            cell: unpack(0),
-        };
+        return Err(Error::UnsoundRecord);
     }
-    Reading {
-        answer: Answer::Done,
-        cell: unpack(w),
-    }
+    Ok(unpack(w))
 }

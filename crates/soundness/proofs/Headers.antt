@@ -1,9 +1,9 @@
 -- The header's tests, in the order in which the code makes them.
 -- Assumes nothing.
-use mathlib.Core.Path.{◌≡◌, refl, sym, ap, ◌∙◌}
+use mathlib.Core.Path.{◌≡◌, sym, ap, ◌∙◌}
 use mathlib.Core.Bool.{Bool, true, false, ◌&&◌}
 use mathlib.Core.Logic.{⊎_elim}
-use mathlib.Core.List.{List, []}
+use mathlib.Core.List.{List}
 use Prim.Native.Nat.{ℕ, zero, suc, ◌+◌, ◌≤◌, ◌<◌, zero-le}
 use native.Mathlib.Nat.{zero-add, eq-or-lt_of_le}
 use native.Mathlib.Omega.{arith}
@@ -14,12 +14,11 @@ use Rattle.laws.specs.Lists.{all, every, table, total, distinct}
 use Rattle.laws.proofs.Tests.{both, and_assoc, and-true}
 use Rattle.laws.proofs.Loops.{take-table}
 use Rattle.metadata.specs.Metadata.{valid_byte}
-use Rattle.machine.specs.declared.Header.{Header}
 use Rattle.machine.specs.State.{Machine}
 use Rattle.machine.specs.Names.{names}
-use Rattle.machine.specs.Soundness.{valid_limits, header_tests, sound_header, sound_entry}
+use Rattle.machine.specs.Soundness.{valid_limits, header_tests, sound_header}
 use Rattle.machine.proofs.Soundness.{taken-tests}
-use Rattle.lent.specs.Parts.{names_of, header_of, no_ring, machine_of, valid_length}
+use Rattle.lent.specs.Parts.{valid_length}
 
 -- the tests of numbers, which come first, told whether the limits are valid
 abbrev pub numbers_by : Bool → Machine → Bool
@@ -75,14 +74,3 @@ module _ (m : Machine) where
 
         pub by_total : {t : ℕ} → distinct (names m.header.names) ≡ true → t ≡ total (take m.header.names.held m.header.counts) → eqb t m.header.ring.length ≡ sound_header m
         by_total e s = sym (header_is ∙ simp (n, l, v, e) (ap (λ (k : ℕ). eqb k m.header.ring.length) (sym s)))
-
--- the test looks at these parts of a header alone
-pub by_parts : (core queue : List ℕ) (h : Header)
-    → sound_header (machine_of core queue (header_of h.rules h.ring h.names h.counts []))
-    ≡ sound_header (machine_of core queue h)
-unfolding sound_header
-by_parts core queue h = refl
-
-pub entry-by-parts : (h : Header) (w : ℕ) → sound_entry (header_of h.rules no_ring (names_of h.names.held [] []) h.counts []) w ≡ sound_entry h w
-unfolding sound_entry
-entry-by-parts h w = refl

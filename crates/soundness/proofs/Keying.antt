@@ -8,14 +8,25 @@ use Prim.Native.Nat.{ℕ, zero, suc, ◌+◌, ◌-◌, ◌≤◌, ◌<◌, zero-
 use native.Mathlib.Nat.{eq-or-lt_of_le}
 use native.Mathlib.Omega.{arith}
 use lib.Dec.{eqb}
-use lib.ListN.{get_or}
+use lib.ListN.{length, get_or, set}
+use lib.Seq.{get_or-set_same, get_or-set_other}
+use mir.Val.{bool_byte}
 use borrow.Author.Tests.{eq-eqb}
 use Rattle.laws.specs.Lists.{one_if, tally, table, total, same}
 use Rattle.laws.proofs.Tests.{never}
 use Rattle.laws.proofs.Same.{same_true}
+use Rattle.machine.specs.declared.Roster.{Roster}
 use Rattle.machine.specs.Names.{name_at}
-use Rattle.lent.specs.Parts.{names_of}
 use Rattle.soundness.specs.Inner.Keys.{key_of, Keyed, times_in}
+
+-- one key more
+pub keyed-further : (names : Roster) (keys : List ℕ) (i : ℕ) {key : ℕ} → Keyed names keys i → i < length keys → key ≡ key_of (name_at names i)
+    → Keyed names (set keys i key) (i + 1)
+keyed-further names keys i {key} keyed h e k l =
+    ⊎_elim
+    (λ (q : k ≡ i). rw q (get_or-set_same keys i key 0 h ∙ e))
+    (λ (g : k < i). get_or-set_other keys i k key 0 (λ q. omega arith) ∙ keyed k g)
+    (eq-or-lt_of_le (let m : k ≤ i = omega arith in m))
 
 -- a test that passes nowhere in a table
 none_in : {A : Type 0} (p : A → Bool) (f : ℕ → A) (n i : ℕ) → ((k : ℕ) → i ≤ k → k < i + n → p (f k) ≡ false) → tally p (table f i n) ≡ 0
@@ -37,20 +48,29 @@ module _ (p : ℕ → Bool) (f : ℕ → ℕ) where
       (λ (q : i ≡ j). let r : 1 ≤ tally p (table f (suc i) n) = passes-once n (suc i) k e (omega arith) (omega arith) in rw (ap (λ (m : ℕ). p (f m)) q ∙ d) (omega arith))
       (λ m. let r : 2 ≤ tally p (table f (suc i) n) = passes-twice n (suc i) j k d e m g (omega arith) in omega arith) (eq-or-lt_of_le l)
 
+-- a test as a number
+pub one-is : (t : Bool) → bool_byte t ≡ one_if t
+one-is true = refl
+one-is false = refl
+
+pub at_most_one : (t : Bool) → bool_byte t ≤ 1
+at_most_one true = omega arith
+at_most_one false = omega arith
+
 -- a count is a sum of ones
 pub tally-total : (p : ℕ → Bool) (f : ℕ → ℕ) (n i : ℕ) → total (table (λ (k : ℕ). one_if (p (f k))) i n) ≡ tally p (table f i n)
 tally-total p f zero i = refl
 tally-total p f (suc n) i = ap (λ (k : ℕ). one_if (p (f i)) + k) (tally-total p f n (suc i))
 
 -- a name whose key stands once is unlike those after it
-pub once-unlike : (names lengths keys : List ℕ) (held i : ℕ) → Keyed names lengths keys held → i < held → held ≤ 16 → times_in keys (get_or keys i 0) ≡ 1
-    → true ≡ eqb (tally (same (name_at (names_of 0 names lengths) i)) (table (name_at (names_of 0 names lengths)) (i + 1) (held - (i + 1)))) 0
+pub once-unlike : (names : Roster) (keys : List ℕ) (held i : ℕ) → Keyed names keys held → i < held → held ≤ 16 → times_in keys (get_or keys i 0) ≡ 1
+    → true ≡ eqb (tally (same (name_at names i)) (table (name_at names) (i + 1) (held - (i + 1)))) 0
 unfolding times_in
-once-unlike names lengths keys held i keyed h few once =
+once-unlike names keys held i keyed h few once =
     sym (eq-eqb _ 0 (none_in (same (name i)) name (held - (i + 1)) (i + 1) (λ k l g. sym (never _ (unlike k (omega arith) (omega arith))))))
   where
     name : ℕ → List ℕ
-    name = name_at (names_of 0 names lengths)
+    name = name_at names
 
     key : ℕ → ℕ
     key k = get_or keys k 0

@@ -1,5 +1,6 @@
 -- The goals of `sim::fresh` that the check leaves.
 use mathlib.Core.Bool.{not}
+use Rattle.std.proofs.Common.{rules}
 use mathlib.Core.Path.{ap, ◌∙◌, sym}
 use Rattle.sim.proofs.Refusals.{refusing}
 use Rattle.sim.proofs.FreshMachine.{bad-size, bad-memory, bad-limit, made}
@@ -26,4 +27,4 @@ pub returns : goal.returns
 returns c =
     let s = c.args in
     made s.rules s.core.now s.queue.now (ap not c.if-not-size.false) c.if-core-size.false (sym c.valid_limits.ensures ∙ c.if-not-valid_limits.false)
-    c.fresh_cell.ensures c.fill.ensures c.fill-2.ensures c.blank.ensures
+    c.fresh_cell.ensures (c.fill.ensures.after (λ y e. search rules)) (c.fill-2.ensures.after (λ y e. search rules)) c.blank.ensures

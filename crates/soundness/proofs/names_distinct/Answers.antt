@@ -2,17 +2,16 @@
 use mathlib.Core.Path.{sym, ◌∙◌}
 use Rattle.laws.proofs.Loops.{distinct-fails, distinct-further}
 use Rattle.machine.specs.Names.{name_at}
-use Rattle.lent.specs.Parts.{names_of}
 use Rattle.soundness.proofs.names_distinct.Goals as goal
 
 pub returns-then-not-is_unlike : goal.returns-then-not-is_unlike
 returns-then-not-is_unlike c =
     let a = c.args in
-    distinct-fails (name_at (names_of 0 a.names.now a.lengths.now)) a.held _ c.loop-i.invariant c.loop-i-test.true
+    distinct-fails (name_at a.names.now) a.held _ c.loop-i.invariant c.loop-i-test.true
     (sym c.is_unlike.ensures ∙ c.if-not-is_unlike.true)
 
 pub loop-i-preserved : goal.loop-i-preserved
 loop-i-preserved c =
     let a = c.args in
-    distinct-further (name_at (names_of 0 a.names.now a.lengths.now)) a.held _ c.loop-i.invariant c.loop-i-test.true
+    distinct-further (name_at a.names.now) a.held _ c.loop-i.invariant c.loop-i-test.true
     (sym c.is_unlike.ensures ∙ c.if-not-is_unlike.false)

@@ -1,5 +1,5 @@
 -- What a loop of `soundness::times` keeps.
-use Prim.Native.Nat.{ℕ, ◌-◌, ◌≤◌}
+use Prim.Native.Nat.{ℕ, ◌≤◌}
 use lib.Dec.{eqb}
 use lib.ListN.{get_or}
 use Rattle.laws.specs.Lists.{one_if}
@@ -7,7 +7,4 @@ use Rattle.laws.proofs.Loops.{TotalFrom}
 use Rattle.soundness.proofs.times.Given as goal
 
 abbrev pub invariant-loop-j : goal.invariant-loop-j
-invariant-loop-j l = (l.j ≤ 16) × (l.n ≤ l.j) × TotalFrom (λ (k : ℕ). one_if (eqb (get_or l.keys k 0) l.key)) 16 l.j l.n
-
-abbrev pub decreases-loop-j : goal.decreases-loop-j
-decreases-loop-j l = 16 - l.j
+invariant-loop-j l = (l.n ≤ l.j) × TotalFrom (λ (k : ℕ). one_if (eqb (get_or l.keys k 0) l.key)) 16 l.j l.n

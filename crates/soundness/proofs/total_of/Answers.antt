@@ -1,23 +1,21 @@
 -- The goals of `soundness::total_of` that the check leaves.
-use mathlib.Core.Path.{◌∙◌, sym, ap}
-use Prim.Native.Nat.{ℕ}
-use native.Mathlib.Omega.{arith}
-use lib.ListN.{get_or}
+use Rattle.std.proofs.Common.{◌≡◌, ◌+◌, ◌<◌, ◌^◌, ℕ, List, get_or, drop, length, ap, arith}
+use lib.ListN.{drop_of_length-le}
 use Rattle.laws.specs.Lists.{total}
-use Rattle.laws.proofs.Loops.{total-further, total-over, take-table}
+use Rattle.laws.proofs.Lists.{drop-first}
 use Rattle.soundness.proofs.total_of.Goals as goal
 
-pub loop-i-preserved : goal.loop-i-preserved
-loop-i-preserved c =
-    let a = c.args in (
+one_more : (xs : List ℕ) (i s t : ℕ) → i < length xs → s + total (drop i xs) ≡ t → s + get_or xs i 0 + total (drop (i + 1) xs) ≡ t
+one_more xs i s t h e = let f : total (drop i xs) ≡ get_or xs i 0 + total (drop (i + 1) xs) = rw (drop-first xs i 0 h) in omega arith
+
+pub loop-count-preserved : goal.loop-count-preserved
+loop-count-preserved c =
+    let fits : get_or c.args.counts.now c.loop-count.count-index 0 < 2 ^ 32 = (c.type_inv.counts c.loop-count.count-index).fits in (
       omega arith,
-      omega arith,
-      rw c.wide-sum.ensures.0
-          (total-further (λ (k : ℕ). get_or a.counts.now k 0) a.held _ _ c.loop-i.invariant.2 c.loop-i-test.true),
+      one_more c.args.counts.now _ _ _ c.loop-count-test.true c.loop-count.invariant.1,
     )
 
 pub returns : goal.returns
 returns c =
-    let a = c.args in
-    total-over (λ (k : ℕ). get_or a.counts.now k 0) a.held _ _ c.loop-i.invariant.2 c.loop-i-test.false
-    ∙ sym (ap total (take-table 0 a.counts.now a.held (omega arith)))
+    let past : total (drop c.loop-count.count-index c.args.counts.now) ≡ 0 = ap total (drop_of_length-le c.args.counts.now (omega arith)) in
+    omega arith

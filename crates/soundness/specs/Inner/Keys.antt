@@ -2,8 +2,8 @@
 -- Inner. Assumes nothing.
 use Rattle.std.specs.Prelude.{ℕ, ◌+◌, ◌-◌, ◌*◌, ◌%◌, ◌<◌, ◌≡◌, cond, List, eqb, ltb, length, get_or}
 use Rattle.laws.specs.Lists.{tally, table}
+use Rattle.machine.specs.declared.Roster.{Roster}
 use Rattle.machine.specs.Names.{name_at}
-use Rattle.lent.specs.Parts.{names_of}
 
 -- the length, and the first byte, the last but one and the last; 0 where there is none
 abbrev pub key_of : List ℕ → ℕ
@@ -12,8 +12,8 @@ key_of name =
     + get_or name (length name - 1) 0 * 16777216
 
 -- the key of each name held
-abbrev pub Keyed : List ℕ → List ℕ → List ℕ → ℕ → Type 0
-Keyed names lengths keys held = (k : ℕ) → k < held → get_or keys k 0 ≡ key_of (name_at (names_of 0 names lengths) k)
+abbrev pub Keyed : Roster → List ℕ → ℕ → Type 0
+Keyed names keys held = (k : ℕ) → k < held → get_or keys k 0 ≡ key_of (name_at names k)
 
 -- how many of the sixteen keys are this one
 unfoldable pub times_in : List ℕ → ℕ → ℕ
