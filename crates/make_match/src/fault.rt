@@ -1,6 +1,6 @@
 // Why there is no match file.
 use crate::kind::Kind;
-use answer::{Answer, number};
+use answer::Error;
 use std::fmt;
 
 // Words and warriors are counted from 1.
@@ -10,7 +10,7 @@ pub(crate) enum Fault {
     TooLong,
     NotWanted { word: usize, wanted: Kind },
     EndsEarly { word: usize, wanted: Kind },
-    Refused { warrior: usize, answer: Answer },
+    Refused { warrior: usize, error: Error },
     NotTaken,
 }
 
@@ -26,9 +26,9 @@ impl fmt::Display for Fault {
                 f,
                 "the text ends after word {word}, where more is wanted: {wanted}"
             ),
-            Fault::Refused { warrior, answer } => {
-                let number = number(answer);
-                let reason = Reason(answer);
+            Fault::Refused { warrior, error } => {
+                let number = error.number();
+                let reason = Reason(error);
                 write!(f, "warrior {warrior} is refused with {number}: {reason}")
             }
             Fault::NotTaken => write!(f, "standard output takes no more"),
@@ -36,20 +36,20 @@ impl fmt::Display for Fault {
     }
 }
 
-// When the writer gives an answer.
+// When the writer gives an error.
 #[derive(Clone, Copy)]
-struct Reason(Answer);
+struct Reason(Error);
 
 impl fmt::Display for Reason {
     fn fmt<W: fmt::Write>(&self, f: &mut fmt::Formatter<W>) -> fmt::Result {
         match self.0 {
-            Answer::InvalidCoreSize => write!(f, "M is not 1 to 46341"),
-            Answer::WarriorTooLong => write!(f, "longer than M"),
-            Answer::InvalidCode(index) => write!(
+            Error::InvalidCoreSize => write!(f, "M is not 1 to 46341"),
+            Error::WarriorTooLong => write!(f, "longer than M"),
+            Error::InvalidCode(index) => write!(
                 f,
                 "no such opcode, modifier, mode or default, instruction index {index}"
             ),
-            Answer::InvalidNameOrPlace => write!(
+            Error::InvalidNameOrPlace => write!(
                 f,
                 "name over 32 bytes or with a byte outside 33 to 126, or place not below M"
             ),

@@ -1,10 +1,10 @@
 // Reads a text word by word: M, then for each warrior the word `warrior`, its name, origin and place, and six numbers for each instruction. A warrior is written when the next begins.
 use crate::fault::Fault;
 use crate::kind::Kind;
-use answer::{Answer, number as number_of};
 use arrayvec::ArrayVec;
 use machine::limits::NO_ORIGIN;
-use match_write::{Written, write_added, write_first};
+use match_write::{write_added, write_first};
+use metadata::Warrior;
 use std::str;
 use std::str::FromStr;
 
@@ -46,13 +46,6 @@ where
     str::from_utf8(word).ok()?.parse().ok()
 }
 
-fn length_of(w: Written) -> Result<usize, Answer> {
-    if number_of(w.answer) == 0 {
-        return Ok(w.length);
-    }
-    Err(w.answer)
-}
-
 impl<'a> Reading<'a> {
     // Nothing is read yet.
     fn new() -> Self {
@@ -91,17 +84,22 @@ impl<'a> Reading<'a> {
 
     // Makes a file of the warriors before and the one that was read.
     fn write(&mut self) -> Result<(), Fault> {
-        let (name, body) = (self.name, self.body.as_slice());
+        let warrior = Warrior {
+            name: self.name,
+            body: &self.body,
+            origin: self.origin,
+            place: self.place,
+        };
         let mut out = [0; LONGEST_FILE];
         let written = if self.warriors == 0 {
-            write_first(self.size, name, body, self.origin, self.place, &mut out)
+            write_first(self.size, warrior, &mut out)
         } else {
-            write_added(&self.file, name, body, self.origin, self.place, &mut out)
+            write_added(&self.file, warrior, &mut out)
         };
         self.warriors = self.warriors.saturating_add(1);
-        let length = length_of(written).map_err(|answer| Fault::Refused {
+        let length = written.map_err(|error| Fault::Refused {
             warrior: self.warriors,
-            answer,
+            error,
         })?;
         self.file = ArrayVec::from(out);
         self.file.truncate(length);

@@ -3,18 +3,15 @@ ghost use Rattle.std.specs.Prelude.{◌≤◌, length};
 
 use crate::input::Input;
 use cycle::{run, step};
-use machine::{Ceiling, Header, Outcome};
+use machine::{Header, Outcome};
+use metadata::Warrior;
 use warrior::load;
 
 #[derive(Clone, Copy)]
 pub(crate) enum Call<'a> {
-    Load {
-        name: &'a [u8],
-        origin: u16,
-        body: &'a [u8],
-    },
+    Load(Warrior<'a>),
     Step,
-    Run(Ceiling),
+    Run(Option<u64>),
 }
 
 impl<'a> Call<'a> {
@@ -29,18 +26,23 @@ impl<'a> Call<'a> {
                 let origin = input.two();
                 let instructions = input.two() as usize;
                 let body = input.part(12 * instructions);
-                Call::Load { name, origin, body }
+                Call::Load(Warrior {
+                    name,
+                    body,
+                    origin,
+                    place: 0,
+                })
             }
             1 => Call::Step,
-            2 => Call::Run(Ceiling::Steps(input.four() as u64)),
-            _ => Call::Run(Ceiling::Unsaid),
+            2 => Call::Run(Some(input.four() as u64)),
+            _ => Call::Run(None),
         }
     }
 
     // Makes the call.
     pub(crate) fn make(self, core: &mut [u64], queue: &mut [u64], h: Header) -> Outcome {
         match self {
-            Call::Load { name, origin, body } => load(core, queue, h, name, body, origin, 0),
+            Call::Load(warrior) => load(core, queue, h, warrior),
             Call::Step => step(core, queue, h),
             Call::Run(ceiling) => run(core, queue, h, ceiling),
         }

@@ -1,7 +1,7 @@
 // A line for each call, in numbers: answer, value, steps taken, queue length, digests of queue and core, and each name's count and next thread number.
-use answer::{Answer, number, value};
+use answer::{number, value};
 use arrayvec::ArrayVec;
-use machine::{Header, Ring};
+use machine::{Outcome, Ring};
 use std::io::{Result, Write};
 
 // A digest, and 32 bits more.
@@ -29,11 +29,12 @@ fn entries(queue: &[u64], ring: Ring) -> u32 {
 }
 
 // Writes what a call left, in one piece; its 38 numbers have at most 20 digits each.
-pub(crate) fn tell(core: &[u64], queue: &[u64], h: &Header, answer: Answer) -> Result<()> {
-    let mut line = ArrayVec::<u8, 1024>::new();
-    let (number, value) = (number(answer), value(answer));
+pub(crate) fn tell(core: &[u64], queue: &[u64], outcome: Outcome) -> Result<()> {
+    let h = outcome.header;
+    let (number, value) = (number(outcome.answer), value(outcome.answer));
     let (steps, length) = (h.steps, h.ring.length);
     let (queued, cells) = (entries(queue, h.ring), core.iter().fold(0, more));
+    let mut line = ArrayVec::<u8, 1024>::new();
     write!(line, "{number} {value} {steps} {length} {queued} {cells}")?;
     for (count, next) in h.counts.iter().zip(&h.threads).take(h.names.held as usize) {
         write!(line, " {count}.{next}")?;

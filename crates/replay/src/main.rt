@@ -7,7 +7,7 @@ use crate::call::Call;
 use crate::input::Input;
 use crate::line::tell;
 use fold::of_size;
-use machine::Header;
+use memory::zeros;
 use sim::fresh;
 use std::io::Result;
 
@@ -30,7 +30,7 @@ fn battle(input: &mut Input<'_>, core: &mut [u64], queue: &mut [u64]) -> Result<
     for _ in 0..calls {
         let outcome = Call::read(input).make(core, queue, header);
         header = outcome.header;
-        tell(core, queue, &header, outcome.answer)?;
+        tell(core, queue, outcome)?;
     }
     Ok(())
 }
@@ -42,11 +42,6 @@ fn battles(input: &[u8], core: &mut [u64], queue: &mut [u64]) -> Result<()> {
         battle(&mut input, core, queue)?;
     }
     Ok(())
-}
-
-// Memory of zeros. The check cannot work out an array of 1,200,000 of them where it sees the length, so N is a parameter.
-fn zeros<const N: usize>() -> [u8; N] {
-    [0; N]
 }
 
 // Memory for the input, the largest core, and a queue whose limit no recorded battle meets.
