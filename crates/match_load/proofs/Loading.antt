@@ -1,6 +1,6 @@
 -- The loads of a match file: one turn of the loop over its warriors, and what the call gives by the first of its checks that applies.
 -- Assumes nothing.
-use Prim.Native.Nat.{ℕ, ◌+◌, ◌-◌, ◌*◌, ◌≤◌, ◌<◌}
+use Prim.Native.Nat.{ℕ, ◌+◌, ◌-◌, ◌≤◌, ◌<◌}
 use mathlib.Core.Path.{◌≡◌, refl, sym, ap, ap₂, subst, ◌∙◌}
 use mathlib.Core.Bool.{Bool, true, false, cond}
 use mathlib.Core.List.{List}
@@ -9,48 +9,24 @@ use native.Mathlib.Omega.{arith}
 use lib.Dec.{eqb}
 use borrow.Author.Tests.{eq-eqb, ne_eqb}
 use Rattle.laws.proofs.Lists.{fall, done}
-use Rattle.answer.specs.declared.Answer.{Answer}
-use Rattle.answer.specs.declared.Answer.TheVariants.{Done, InvalidCoreSize, UnsoundRecord}
-use Rattle.answer.specs.Numbers.{Told, gives, told}
+use Rattle.std.proofs.Common.{Option, Some, None}
+use Rattle.answer.specs.declared.Error.{Error}
+use Rattle.answer.specs.Numbers.{Told, gives, Answer, told, told_error}
+use Rattle.answer.proofs.Numbers.{not_zero}
 use Rattle.program.specs.Program.{instructions}
 use Rattle.machine.specs.declared.Header.{Header}
-use Rattle.machine.specs.declared.Ring.{Ring}
-use Rattle.machine.specs.declared.Roster.{Roster}
-use Rattle.machine.specs.declared.Rules.{Rules}
-use Rattle.machine.specs.State.{Machine, Outcome, told_by, joined, Verdict, accepted, refusal, first}
+use Rattle.machine.specs.State as state
+use Rattle.machine.specs.State.{Machine, Outcome, joined, Verdict, accepted, refusal, first}
 use Rattle.machine.specs.Soundness.{sound_header}
-use Rattle.machine.specs.Load.{loaded, load}
+use Rattle.machine.specs.Load.{loaded}
 use Rattle.machine.proofs.Soundness.{SoundHeader, size-most}
 use Rattle.machine.proofs.Load.{load-by-cases, load-refused, load-accepted, load-sound}
-use Rattle.match_format.specs.declared.Fault.{Fault}
-use Rattle.match_format.specs.declared.Fault.TheVariants.{Nowhere, At}
 use Rattle.match_format.specs.Faults.{fault}
-use Rattle.match_file.specs.Reading as reading
-use Rattle.match_file.specs.Reading.{zeroed, line_in, warriors_in, size_in, warrior_of}
-use Rattle.match_file.specs.declared.Line.{Line}
-use Rattle.match_file.proofs.Refusal.{not-told}
-use Rattle.match_file.proofs.Values.{number_read, name-told, body-told, origin-told, place-told}
-use Rattle.encoding.specs.Bytes.{part}
-use Rattle.lent.specs.Parts.{parts, machine_of}
+use Rattle.match_file.specs.Reading.{told_by, warriors_in, size_in, warrior_of}
+use Rattle.lent.specs.Parts.{machine_of}
 use Rattle.lent.specs.Given.{Given, given, given_by}
 use Rattle.sim.proofs.Refusals.{refusing}
-use Rattle.soundness.proofs.Headers.{by_parts}
 use Rattle.match_load.specs.Loading.{Loads, load_warrior, loads, match_checks, after_checks, load_match}
-
--- the load of a warrior, from what is read of its line
-pub load_is : (f : List ℕ) (k : ℕ) (m : Machine) {l : Line} → l ≡ line_in f k → {name body : List ℕ} → name ≡ part f l.name_start l.name_length
-    → body ≡ part f l.body_start (12 * l.count) → load m name body l.origin l.place ≡ load_warrior f k m
-load_is f k m {l} line-is name-is body_is =
-    ap₂ (λ (a b : List ℕ). load m a b l.origin l.place) (name-told f k line-is name-is) (body-told f k line-is body_is)
-    ∙ ap₂ (load m (warrior_of f k).name (warrior_of f k).body) (origin-told f k line-is) (place-told f k line-is)
-
--- a sound header is sound whatever steps it has taken
-pub whatever-steps : (core queue : List ℕ) (rules : Rules) (ring : Ring) (names : Roster) (counts threads : List ℕ) (s t : ℕ)
-    → sound_header (parts core queue rules ring s names counts threads) ≡ true → sound_header (parts core queue rules ring t names counts threads) ≡ true
-whatever-steps core queue rules ring names counts threads s t e =
-    sym (by_parts core queue (parts core queue rules ring t names counts threads).header)
-    ∙ by_parts core queue (parts core queue rules ring s names counts threads).header
-    ∙ e
 
 -- what a load of a file's warrior does
 module _ (f : List ℕ) (k : ℕ) (m : Machine) where
@@ -81,28 +57,27 @@ stopping core queue r e = (refusing core queue (r.0, r.1, r.2, r.3) e.0, r.4 ∙
 
 -- what is given of loads, with the writes of those before them
 abbrev after : ℕ → Loads → Given
-after w l = given (told_by l.outcome) (w + l.outcome.writes) l.outcome.steps l.outcome.machine
+after w l = given (state.told_by l.outcome) (w + l.outcome.writes) l.outcome.steps l.outcome.machine
 
 -- the loads that are left, after w writes, give what all of them give
 abbrev pub Leaves : ℕ → Loads → Loads → Type 0
 Leaves w rest all = (after w rest ≡ given_by all.outcome) × (rest.warrior ≡ all.warrior)
 
 -- one turn of the loop over the warriors: the load of warrior i
-module _ (f : List ℕ) (i : ℕ) (m : Machine) (answer : Answer) {writes steps : ℕ} (n : Machine) {r : ℕ}
-    (gave : given (told answer) writes steps n ≡ given_by (load_warrior f i m)) (number_is : r ≡ (told answer).number) where
+module _ (f : List ℕ) (i : ℕ) (m : Machine) (t : Told) {writes steps : ℕ} (n : Machine) (gave : given t writes steps n ≡ given_by (load_warrior f i m)) where
   abbrev o : Outcome
   o = load_warrior f i m
 
-  told_is : told answer ≡ told_by o
+  told_is : t ≡ state.told_by o
   told_is = ap (λ (x : Given). x.told) gave
 
   machine-is : n ≡ o.machine
   machine-is = ap (λ (x : Given). x.machine) gave
 
-  zero_is : r ≡ 0 → o.number ≡ 0
-  zero_is z = sym (ap (λ (t : Told). t.number) told_is) ∙ sym number_is ∙ z
+  zero_is : t.number ≡ 0 → o.number ≡ 0
+  zero_is z = sym (ap (λ (x : Told). x.number) told_is) ∙ z
 
-  pub few-more : SoundHeader m → r ≡ 0 → writes ≤ 46341
+  pub few-more : SoundHeader m → t.number ≡ 0 → writes ≤ 46341
   few-more s z = subst (λ (x : ℕ). x ≤ 46341) (sym (ap (λ (x : Given). x.writes) gave)) (few-writes f i m s (zero_is z))
 
   pub still-sound : SoundHeader m → SoundHeader n
@@ -119,22 +94,22 @@ module _ (f : List ℕ) (i : ℕ) (m : Machine) (answer : Answer) {writes steps 
     opened : loads f i (count - i) m ≡ turn (eqb o.number 0)
     opened = ap (λ (k : ℕ). loads f i k m) (fall count i below)
 
-    pub load-stops : (r ≡ 0 → ⊥) → (given (told answer) w 0 n ≡ given_by all.outcome) × (i ≡ all.warrior)
+    pub load-stops : (t.number ≡ 0 → ⊥) → (given t w 0 n ≡ given_by all.outcome) × (i ≡ all.warrior)
     load-stops z =
-        let not-zero : o.number ≡ 0 → ⊥ = λ q. z (number_is ∙ ap (λ (t : Told). t.number) told_is ∙ q) in
+        let not-zero : o.number ≡ 0 → ⊥ = λ q. z (ap (λ (x : Told). x.number) told_is ∙ q) in
         let e = opened ∙ ap turn (ne_eqb o.number 0 not-zero) in (
           ap₂ (λ (t : Told) (k : Machine). given t w 0 k) told_is machine-is
-              ∙ ap₂ (λ (a b : ℕ). given (told_by o) a b o.machine) (sym (ap (λ (x : ℕ). w + x) (refused-writes f i m not-zero) ∙ add-zero w)) (sym (load-steps f i m))
+              ∙ ap₂ (λ (a b : ℕ). given (state.told_by o) a b o.machine) (sym (ap (λ (x : ℕ). w + x) (refused-writes f i m not-zero) ∙ add-zero w)) (sym (load-steps f i m))
               ∙ sym (ap (after w) e)
               ∙ left.0,
           sym (ap (λ (l : Loads). l.warrior) e) ∙ left.1,
         )
 
-    pub load-goes-on : r ≡ 0 → Leaves (w + writes) (loads f (i + 1) (count - (i + 1)) n) all
+    pub load-goes-on : t.number ≡ 0 → Leaves (w + writes) (loads f (i + 1) (count - (i + 1)) n) all
     load-goes-on z =
         let e = opened ∙ ap turn (eq-eqb o.number 0 (zero_is z)) in (
           ap₂ (λ (x : ℕ) (k : Machine). after (w + x) (loads f (i + 1) (count - (i + 1)) k)) (ap (λ (x : Given). x.writes) gave) machine-is
-              ∙ ap₂ (λ (a b : ℕ). given (told_by more.outcome) a b more.outcome.machine) (add_assoc w o.writes more.outcome.writes)
+              ∙ ap₂ (λ (a b : ℕ). given (state.told_by more.outcome) a b more.outcome.machine) (add_assoc w o.writes more.outcome.writes)
               (sym (ap (λ (s : ℕ). s + more.outcome.steps) (load-steps f i m) ∙ zero-add more.outcome.steps))
               ∙ sym (ap (after w) e)
               ∙ left.0,
@@ -146,14 +121,14 @@ module _ (f : List ℕ) (count : ℕ) (m : Machine) where
   pub loads-begin : Leaves 0 (loads f 0 (count - 0) m) (loads f 0 count m)
   loads-begin =
       let e = ap (λ (k : ℕ). loads f 0 k m) (sub-zero count) in (
-        ap (after 0) e ∙ ap (λ (x : ℕ). given (told_by (loads f 0 count m).outcome) x (loads f 0 count m).outcome.steps (loads f 0 count m).outcome.machine) (zero-add _),
+        ap (after 0) e ∙ ap (λ (x : ℕ). given (state.told_by (loads f 0 count m).outcome) x (loads f 0 count m).outcome.steps (loads f 0 count m).outcome.machine) (zero-add _),
         ap (λ (l : Loads). l.warrior) e,
       )
 
-  pub loads-end : (i w : ℕ) (all : Loads) → Leaves w (loads f i (count - i) m) all → count ≤ i → (given (told Done) w 0 m ≡ given_by all.outcome) × (0 ≡ all.warrior)
+  pub loads-end : (i w : ℕ) (all : Loads) → Leaves w (loads f i (count - i) m) all → count ≤ i → (given (gives 0 0) w 0 m ≡ given_by all.outcome) × (0 ≡ all.warrior)
   loads-end i w all left h =
       let e = ap (λ (k : ℕ). loads f i k m) (done count i h) in (
-        ap (λ (x : ℕ). given (told Done) x 0 m) (sym (add-zero w)) ∙ sym (ap (after w) e) ∙ left.0,
+        ap (λ (x : ℕ). given (gives 0 0) x 0 m) (sym (add-zero w)) ∙ sym (ap (after w) e) ∙ left.0,
         sym (ap (λ (l : Loads). l.warrior) e) ∙ left.1,
       )
 
@@ -174,30 +149,24 @@ module _ (m : Machine) (f : List ℕ) where
     ap (λ (x : Verdict). (by x).warrior) {x = refusal n v} (sym c),
   )
 
-  pub unsound : sound_header m ≡ false → (given (told UnsoundRecord) 0 0 m ≡ given_by (load_match m f).outcome) × (0 ≡ (load_match m f).warrior)
-  unsound s = refuses (told UnsoundRecord) 9 0 refl (simp s)
+  pub unsound : sound_header m ≡ false → (given (gives 9 0) 0 0 m ≡ given_by (load_match m f).outcome) × (0 ≡ (load_match m f).warrior)
+  unsound s = refuses (gives 9 0) 9 0 refl (simp s)
 
-  module _ (s : sound_header m ≡ true) (answer : Answer) (told_is : told answer ≡ reading.told_by (fault f)) {r : ℕ} (number_is : r ≡ (told answer).number) where
-    pub malformed-file : (r ≡ 0 → ⊥) → (given (told answer) 0 0 m ≡ given_by (load_match m f).outcome) × (0 ≡ (load_match m f).warrior)
-    malformed-file z = go (fault f) refl
+  module _ (s : sound_header m ≡ true) where
+    pub malformed-file : (e : Error) → told_error e ≡ told_by (fault f) → (given (told_error e) 0 0 m ≡ given_by (load_match m f).outcome) × (0 ≡ (load_match m f).warrior)
+    malformed-file e told_is = go (fault f) refl
       where
-        go : (x : Fault) → fault f ≡ x → (given (told answer) 0 0 m ≡ given_by (load_match m f).outcome) × (0 ≡ (load_match m f).warrior)
-        go Nowhere e = absurd (z (number_is ∙ ap (λ (t : Told). t.number) (told_is ∙ ap reading.told_by e)))
-        go (At p) e = refuses (told answer) 13 p (told_is ∙ ap reading.told_by e) (simp (s, e))
+        go : (x : Option ℕ) → fault f ≡ x → (given (told_error e) 0 0 m ≡ given_by (load_match m f).outcome) × (0 ≡ (load_match m f).warrior)
+        go None q = absurd (not_zero e (ap (λ (t : Told). t.number) (told_is ∙ ap told_by q)))
+        go (Some p) q = refuses (told_error e) 13 p (told_is ∙ ap told_by q) (simp (s, q))
 
-    module _ (z : r ≡ 0) where
-      pub reads : fault f ≡ Nowhere
-      reads = not-told (fault f) (sym (ap (λ (t : Told). t.number) told_is) ∙ sym number_is ∙ z)
+    module _ (reads : fault f ≡ None) where
+      pub other-size : (size_in f ≡ m.header.rules.size → ⊥) → (given (gives 1 0) 0 0 m ≡ given_by (load_match m f).outcome) × (0 ≡ (load_match m f).warrior)
+      other-size n = refuses (gives 1 0) 1 0 refl (simp (s, reads, ne_eqb (size_in f) m.header.rules.size n))
 
-      module _ {size : ℕ} (size_is : size ≡ zeroed (fault f) (size_in f)) where
-        pub other-size : (size ≡ m.header.rules.size → ⊥) → (given (told InvalidCoreSize) 0 0 m ≡ given_by (load_match m f).outcome) × (0 ≡ (load_match m f).warrior)
-        other-size n =
-            refuses (told InvalidCoreSize) 1 0 refl
-            (simp (s, reads, ne_eqb (size_in f) m.header.rules.size (λ q. n (number_read reads size_is ∙ q))))
-
-        -- then its loads
-        pub then-loads : size ≡ m.header.rules.size → {count : ℕ} → count ≡ zeroed (fault f) (warriors_in f) → loads f 0 count m ≡ load_match m f
-        unfolding load_match
-        then-loads q d =
-            let e : first (match_checks m f) ≡ accepted = simp (s, reads, eq-eqb (size_in f) m.header.rules.size (sym (number_read reads size_is) ∙ q)) in
-            ap (λ (k : ℕ). loads f 0 k m) (number_read reads d) ∙ sym (ap by e)
+      -- then its loads
+      pub then-loads : size_in f ≡ m.header.rules.size → loads f 0 (warriors_in f) m ≡ load_match m f
+      unfolding load_match
+      then-loads q =
+          let e : first (match_checks m f) ≡ accepted = simp (s, reads, eq-eqb (size_in f) m.header.rules.size q) in
+          sym (ap by e)

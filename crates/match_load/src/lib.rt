@@ -1,20 +1,19 @@
 // Loads every warrior of a match file in one call (02, A.1).
 #![tactic(auto)]
 
-ghost use Rattle.std.specs.Prelude.{◌≡◌, true, ℕ, ◌≤◌};
+ghost use Rattle.std.specs.Prelude.{◌≡◌, true, ◌≤◌};
 ghost use Rattle.answer.specs.Numbers.{told};
 ghost use Rattle.machine.specs.Soundness.{sound_header};
-ghost use Rattle.lent.specs.Parts.{names_of, parts, machine_of};
-ghost use Rattle.lent.specs.Given.{given, given_by};
+ghost use Rattle.lent.specs.Parts.{parts, machine_of};
+ghost use Rattle.lent.specs.Given.{given, given_by, writes_of};
 ghost use Rattle.match_load.specs.Loading.{load_warrior, loads, load_match};
 
-use answer::{Answer, number};
-use encoding::part;
-use lent::sized;
-use machine::{Header, Outcome, Ring, Roster, Rules};
-use match_file::{line_in, read};
+use answer::{Answer, Error};
+use lent::{header_of, processes_of, sized};
+use machine::{Header, Outcome, Processes, Roster, Rules};
+use match_file::{read, warrior_in};
 use soundness::sound_header;
-use warrior::{Loaded, load_parts};
+use warrior::load_parts;
 
 // What comes of loads: their outcome, and the number of the warrior at which they stopped, from 0; 0 where none was refused.
 #[derive(Clone, Copy)]
@@ -23,13 +22,11 @@ pub struct Loads {
     pub warrior: usize,
 }
 
-// The same on the lent parts of a record: the answer, the writes, and the ring and the number of names afterwards.
+// The same on the parts of a record: the answer and the writes, and the number of the warrior.
 #[derive(Clone, Copy)]
 struct AllLoaded {
     answer: Answer,
     writes: u64,
-    ring: Ring,
-    held: u32,
     warrior: usize,
 }
 
@@ -48,41 +45,22 @@ fn stopped(answer: Answer, writes: u64, header: Header, warrior: usize) -> Loads
     }
 }
 
-// Loads a warrior of a file, on the lent parts of a record: its name and its body are parts of the file.
+// Loads a warrior of a file into the parts of a record, and gives its writes.
 fn load_one(
     file: &[u8],
     warrior: u8,
     core: &mut [u64],
     queue: &mut [u64],
-    names: &mut [u8; 512],
-    lengths: &mut [u8; 16],
-    counts: &mut [u32; 16],
-    threads: &mut [u32; 16],
     rules: Rules,
-    ring: Ring,
-    held: u32,
-) -> Loaded
-    requires { sound_header (parts core.old queue.old rules ring 0 (names_of held names.old lengths.old) counts.old threads.old) ≡ true }
-    ensures { (steps : ℕ) → given (told result.answer) result.writes 0
-        (parts core.new queue.new rules result.ring steps (names_of result.held names.new lengths.new) counts.new threads.new)
-        ≡ given_by (load_warrior file.now warrior (parts core.old queue.old rules ring steps (names_of held names.old lengths.old) counts.old threads.old)) }
+    names: &mut Roster,
+    processes: &mut Processes,
+) -> Result<u64, Error>
+    requires { sound_header (parts core.old queue.old rules names.old processes.old) ≡ true }
+    ensures { given (told result) (writes_of result) 0 (parts core.new queue.new rules names.new processes.new)
+        ≡ given_by (load_warrior file.now warrior (parts core.old queue.old rules names.old processes.old)) }
 {
-    let l = line_in(file, warrior);
-    load_parts(
-        core,
-        queue,
-        names,
-        lengths,
-        counts,
-        threads,
-        rules,
-        ring,
-        held,
-        part(file, l.name_start, l.name_length),
-        part(file, l.body_start, 12 * l.count as usize),
-        l.origin,
-        l.place,
-    )
+    let w = warrior_in(file, warrior);
+    load_parts(core, queue, rules, names, processes, w)
 }
 
 // Loads that many warriors of a file, up to the first refused.
@@ -91,93 +69,39 @@ fn load_all(
     count: usize,
     core: &mut [u64],
     queue: &mut [u64],
-    names: &mut [u8; 512],
-    lengths: &mut [u8; 16],
-    counts: &mut [u32; 16],
-    threads: &mut [u32; 16],
     rules: Rules,
-    ring: Ring,
-    held: u32,
+    names: &mut Roster,
+    processes: &mut Processes,
 ) -> AllLoaded
-    requires { (count ≤ 16) × (sound_header (parts core.old queue.old rules ring 0 (names_of held names.old lengths.old) counts.old threads.old) ≡ true) }
-    ensures { (steps : ℕ) → (given (told result.answer) result.writes 0
-        (parts core.new queue.new rules result.ring steps (names_of result.held names.new lengths.new) counts.new threads.new)
-        ≡ given_by (loads file.now 0 count (parts core.old queue.old rules ring steps (names_of held names.old lengths.old) counts.old threads.old)).outcome)
-        × (result.warrior ≡ (loads file.now 0 count (parts core.old queue.old rules ring steps (names_of held names.old lengths.old) counts.old threads.old)).warrior) }
+    requires { (count ≤ 16) × (sound_header (parts core.old queue.old rules names.old processes.old) ≡ true) }
+    ensures { (given (told result.answer) result.writes 0 (parts core.new queue.new rules names.new processes.new)
+        ≡ given_by (loads file.now 0 count (parts core.old queue.old rules names.old processes.old)).outcome)
+        × (result.warrior ≡ (loads file.now 0 count (parts core.old queue.old rules names.old processes.old)).warrior) }
 {
-    sized(names, lengths, counts, threads);
-    let mut ring = ring;
-    let mut held = held;
+    sized(
+        &names.bytes,
+        &names.lengths,
+        &processes.counts,
+        &processes.threads,
+    );
     let mut writes: u64 = 0;
-    let mut i: usize = 0;
-    while i < count {
-        let l = load_one(
-            file, i as u8, core, queue, names, lengths, counts, threads, rules, ring, held,
-        );
-        ring = l.ring;
-        held = l.held;
-        let answer = l.answer;
-        if number(answer) != 0 {
-            return AllLoaded {
-                answer,
-                writes,
-                ring,
-                held,
-                warrior: i,
-            };
+    for i in 0..count {
+        match load_one(file, i as u8, core, queue, rules, names, processes) {
+            Ok(more) => writes += more,
+            Err(error) => {
+                return AllLoaded {
+                    answer: Err(error),
+                    writes,
+                    warrior: i,
+                };
+            }
         }
-        writes = writes + l.writes;
-        i = i + 1;
     }
     AllLoaded {
-        answer: Answer::Done,
+        answer: Ok(()),
         writes,
-        ring,
-        held,
         warrior: 0,
     }
-}
-
-// Loads that many warriors of a file into a record with a sound header: the header is taken apart, and made anew afterwards.
-fn load_warriors(core: &mut [u64], queue: &mut [u64], h: Header, file: &[u8], count: usize) -> Loads
-    requires { (count ≤ 16) × (sound_header (machine_of core.old queue.old h) ≡ true) }
-    ensures { (given (told result.outcome.answer) result.outcome.writes result.outcome.steps (machine_of core.new queue.new result.outcome.header)
-        ≡ given_by (loads file.now 0 count (machine_of core.old queue.old h)).outcome)
-        × (result.warrior ≡ (loads file.now 0 count (machine_of core.old queue.old h)).warrior) }
-{
-    let rules = h.rules;
-    let mut bytes = h.names.bytes;
-    let mut lengths = h.names.lengths;
-    let mut counts = h.counts;
-    let mut threads = h.threads;
-    let l = load_all(
-        file,
-        count,
-        core,
-        queue,
-        &mut bytes,
-        &mut lengths,
-        &mut counts,
-        &mut threads,
-        rules,
-        h.ring,
-        h.names.held,
-    );
-    let ring = l.ring;
-    let answer = l.answer;
-    let header = Header {
-        rules,
-        ring,
-        steps: h.steps,
-        names: Roster {
-            held: l.held,
-            bytes,
-            lengths,
-        },
-        counts,
-        threads,
-    };
-    stopped(answer, l.writes, header, l.warrior)
 }
 
 // Loads every warrior of a match file, one by one in file order, up to the first refused; those before it stand.
@@ -186,25 +110,22 @@ pub fn load_match(core: &mut [u64], queue: &mut [u64], h: Header, file: &[u8]) -
         ≡ given_by (load_match (machine_of core.old queue.old h) file.now).outcome)
         × (result.warrior ≡ (load_match (machine_of core.old queue.old h) file.now).warrior) }
 {
-    if !sound_header(
-        core,
-        queue,
-        h.rules,
-        h.ring,
-        h.names.held,
-        &h.names.bytes,
-        &h.names.lengths,
-        &h.counts,
-    ) {
-        return stopped(Answer::UnsoundRecord, 0, h, 0);
+    let rules = h.rules;
+    let mut names = h.names;
+    let mut processes = processes_of(h);
+    if !sound_header(core, queue, rules, &names, &processes) {
+        return stopped(Err(Error::UnsoundRecord), 0, h, 0);
     }
-    let c = read(file);
-    let fault = c.answer;
-    if number(fault) != 0 {
-        return stopped(fault, 0, h, 0);
+    let contents = match read(file) {
+        Ok(contents) => contents,
+        Err(error) => return stopped(Err(error), 0, h, 0),
+    };
+    if contents.size != rules.size {
+        return stopped(Err(Error::InvalidCoreSize), 0, h, 0);
     }
-    if c.size != h.rules.size {
-        return stopped(Answer::InvalidCoreSize, 0, h, 0);
-    }
-    load_warriors(core, queue, h, file, c.warriors)
+    let count = contents.warriors;
+    let l = load_all(file, count, core, queue, rules, &mut names, &mut processes);
+    let answer = l.answer;
+    let header = header_of(rules, names, processes);
+    stopped(answer, l.writes, header, l.warrior)
 }

@@ -2,140 +2,123 @@
 -- Assumes nothing.
 use mathlib.Core.Path.{◌≡◌, refl, sym, ap, ap₂, subst, ◌∙◌}
 use mathlib.Core.Bool.{Bool, true, false, cond, not, ◌&&◌}
-use mathlib.Core.List.{List, [], ◌∷◌}
+use mathlib.Core.List.{List, []}
 use Prim.Native.Nat.{ℕ, ◌≤◌, ◌<◌}
 use native.Mathlib.Omega.{arith}
 use lib.Dec.{eqb, leb}
 use lib.ListN.{length, get_or}
 use borrow.Author.Tests.{leb-false, ltb-false, eqb-true, le-leb, lt-ltb, not-false}
-use Rattle.answer.specs.declared.Answer.TheVariants.{Done}
-use Rattle.answer.specs.Numbers.{Told, gives, told}
+use Rattle.answer.specs.Numbers.{Told, gives}
 use Rattle.laws.proofs.Tests.{neither}
 use Rattle.offset.specs.Offset.{ahead}
 use Rattle.program.specs.Program.{instructions, cells}
 use Rattle.metadata.specs.Metadata.{called}
 use Rattle.metadata.proofs.Names.{called-valid}
 use Rattle.machine.specs.declared.Header.{Header}
-use Rattle.machine.specs.declared.Ring.{Ring}
+use Rattle.machine.specs.declared.Processes.{Processes}
 use Rattle.machine.specs.declared.Roster.{Roster}
+use Rattle.machine.specs.declared.Rules.{Rules}
 use Rattle.machine.specs.State.{Machine, under, with_core, Verdict, accepted, refusal, first, settle, verdict_told}
 use Rattle.machine.specs.Names.{slot, register, registered, numbered}
 use Rattle.machine.specs.Queue.{push, started}
 use Rattle.machine.specs.Load.{origin_of}
 use Rattle.machine.proofs.Checks.{passed, without, others}
-use Rattle.lent.specs.Parts.{header_of, named_of, queue_of, has_room, start_if, register_if, machine_of}
+use Rattle.lent.specs.Parts.{processes_of, header_of, parts, named_of, queue_of, has_room, start_if, register_if}
 use Rattle.lent.specs.Given.{Given, given, given_by}
 use Rattle.load_checks.specs.Refusal.{tested_checks, tested_told}
 use Rattle.load_checks.proofs.Index.{new_is, not-six, eight}
-use Rattle.load_checks.proofs.Checking.{called_is}
 use Rattle.warrior.specs.Tested.{placed_if, loaded_if, load_tested}
 use Rattle.warrior.specs.Inner.Accepted.{Accepted}
 
--- a header with other names
-abbrev named : Header → Header → Header
-named h g = record { rules = h.rules; ring = h.ring; steps = h.steps; names = g.names; counts = g.counts; threads = g.threads }
+-- the processes of a record's part, in the record
+module _ (core : List ℕ) (rules : Rules) (names : Roster) where
+  abbrev within : Machine → Machine
+  within q = parts core q.queue rules names (processes_of q.header)
 
-module _ (m : Machine) (name body : List ℕ) (place i : ℕ) (a : Accepted m name body place i) where
-  abbrev parts : Header
-  parts = named_of m.header.names m.header.counts m.header.threads
-
-  pub size-some : m.header.rules.size ≡ 0 → ⊥
-  size-some e = let p : place < m.header.rules.size = a.below in omega arith
-
-  -- the names after registering, from their parts
-  registered-is : named m.header (cond (eqb i m.header.names.held) (register_if parts name) parts) ≡ registered m.header name
-  unfolding register_if register
-  registered-is =
-      go (eqb i m.header.names.held) refl ∙ sym (ap (λ (b : Bool). cond b (register m.header name) m.header) (new_is m.header name a.index))
+  starts_within : (at i : ℕ) (queue : List ℕ) (p : Processes) → within (start_if at i (queue_of queue p)) ≡ start_if at i (parts core queue rules names p)
+  unfolding start_if started push numbered
+  starts_within at i queue p = go (has_room (queue_of queue p) i && not (eqb (get_or p.threads i 0) 4294967295))
     where
-      go : (b : Bool) → eqb i m.header.names.held ≡ b → named m.header (cond b (register_if parts name) parts) ≡ cond b (register m.header name) m.header
-      go true e =
-          let k : i ≡ m.header.names.held = eqb-true i m.header.names.held e in
-          simp (lt-ltb m.header.names.held 16 (let f : i < 16 = a.free in omega arith), le-leb (length name) 32 a.short)
-      go false e = refl
-
-  -- what is given of a process started, where there is room
-  started_with : ℕ → ℕ → List ℕ → ℕ → Header → Given
-  started_with k count core at g =
-      record { told = gives 0 0; writes = count; steps = 0; machine = start_if at k (with_core core (under g m)) }
-
-  -- the record put together from what the calls leave
-  assembled : (at : ℕ) (counts threads : List ℕ) {core queue counts' threads' : List ℕ} {names : Roster} {ring : Ring} {count : ℕ}
-      → queue_of queue ring counts' threads' ≡ start_if at i (queue_of m.queue m.header.ring counts threads)
-      → given (told Done) count 0
-      (machine_of core queue (record { rules = m.header.rules; ring = ring; steps = m.header.steps; names = names; counts = counts'; threads = threads' }))
-      ≡ started_with i count core at (named m.header (named_of names counts threads))
-  unfolding start_if started push numbered started_with
-  assembled at cs ts {core = core} {names = ns} {count = count} e = ap whole e ∙ go (has_room queued i && not (eqb (get_or ts i 0) 4294967295))
-    where
-      queued : Machine
-      queued = queue_of m.queue m.header.ring cs ts
-
-      before : Machine
-      before = with_core core (under (named m.header (named_of ns cs ts)) m)
-
-      whole : Machine → Given
-      whole q =
-          given (told Done) count 0
-          (machine_of core q.queue (record { rules = m.header.rules; ring = q.header.ring; steps = m.header.steps; names = ns; counts = q.header.counts; threads = q.header.threads }))
-
-      go : (b : Bool) → whole (cond b (started at i queued) queued) ≡ given (told Done) count 0 (cond b (started at i before) before)
+      go : (b : Bool) → within (cond b (started at i (queue_of queue p)) (queue_of queue p))
+          ≡ cond b (started at i (parts core queue rules names p)) (parts core queue rules names p)
       go true = refl
       go false = refl
 
+-- the names of a record's part, under its rules
+abbrev under_rules : Rules → Header → Header
+under_rules rules g = header_of rules g.names (processes_of g)
+
+module _ (core queue : List ℕ) (rules : Rules) (names : Roster) (p : Processes) (name body : List ℕ) (place i : ℕ)
+    (a : Accepted (parts core queue rules names p) name body place i) where
+  pub size-some : rules.size ≡ 0 → ⊥
+  size-some e = let l : place < rules.size = a.below in omega arith
+
+  -- the names after registering, from their parts
+  registered-is : under_rules rules (cond (eqb i names.held) (register_if (named_of names p) name) (named_of names p)) ≡ registered (header_of rules names p) name
+  unfolding register_if register
+  registered-is =
+      go (eqb i names.held) refl
+      ∙ sym (ap (λ (b : Bool). cond b (register (header_of rules names p) name) (header_of rules names p)) (new_is (header_of rules names p) name a.index))
+    where
+      go : (b : Bool) → eqb i names.held ≡ b → under_rules rules (cond b (register_if (named_of names p) name) (named_of names p))
+          ≡ cond b (register (header_of rules names p) name) (header_of rules names p)
+      go true e =
+          let k : i ≡ names.held = eqb-true i names.held e in
+          simp (lt-ltb names.held 16 (let f : i < 16 = a.free in omega arith), le-leb (length name) 32 a.short)
+      go false e = refl
+
   -- a warrior that passed the checks
-  pub accepted-is : (origin : ℕ) {core queue counts threads counts' threads' : List ℕ} {names : Roster} {ring : Ring} {at count : ℕ}
-      → named_of names counts threads ≡ cond (eqb i m.header.names.held) (register_if parts name) parts
-      → core ≡ placed_if m.core place (cells m.header.rules.size body)
-      → at ≡ ahead m.header.rules.size place (origin_of origin)
-      → queue_of queue ring counts' threads' ≡ start_if at i (queue_of m.queue m.header.ring counts threads)
+  pub accepted-is : (origin : ℕ) {core' queue' : List ℕ} {names' : Roster} {p' p'' : Processes} {at count : ℕ}
+      → named_of names' p' ≡ cond (eqb i names.held) (register_if (named_of names p) name) (named_of names p)
+      → core' ≡ placed_if core place (cells rules.size body)
+      → at ≡ ahead rules.size place (origin_of origin)
+      → queue_of queue' p'' ≡ start_if at i (queue_of queue p')
       → count ≡ instructions body
-      → given (told Done) count 0
-      (machine_of core queue (record { rules = m.header.rules; ring = ring; steps = m.header.steps; names = names; counts = counts'; threads = threads' }))
-      ≡ given_by (loaded_if m name body origin place)
-  unfolding loaded_if started_with
-  accepted-is origin {core = core} {counts = cs} {threads = ts} {at = at} {count = count} er ec ea es en =
-      assembled at cs ts es
-      ∙ ap (started_with i count core at) (ap (named m.header) er ∙ registered-is)
-      ∙ ap (λ (p : ℕ). started_with i count core p (registered m.header name)) ea
-      ∙ ap₂ (λ (n : ℕ) (c : List ℕ). started_with i n c (ahead m.header.rules.size place (origin_of origin)) (registered m.header name)) en ec
-      ∙ ap (λ (k : ℕ). started_with k (instructions body) (placed_if m.core place (cells m.header.rules.size body)) (ahead m.header.rules.size place (origin_of origin)) (registered m.header name)) a.index
+      → given (gives 0 0) count 0 (parts core' queue' rules names' p'') ≡ given_by (loaded_if (parts core queue rules names p) name body origin place)
+  unfolding loaded_if
+  accepted-is origin {core'} {queue'} {names'} {p'} {p''} {at} {count} er ec ea es en =
+      ap (λ (m : Machine). given (gives 0 0) count 0 m)
+      (ap (within core' rules names') es
+      ∙ starts_within core' rules names' at i queue p'
+      ∙ ap (λ (h : Header). start_if at i (with_core core' (under h (parts core queue rules names p)))) (ap (under_rules rules) er ∙ registered-is)
+      ∙ ap₂ (λ (c : List ℕ) (k : ℕ). start_if k i (with_core c (under (registered (header_of rules names p) name) (parts core queue rules names p)))) ec ea
+      ∙ ap (λ (k : ℕ). start_if (ahead rules.size place (origin_of origin)) k
+      (with_core (placed_if core place (cells rules.size body)) (under (registered (header_of rules names p) name) (parts core queue rules names p)))) a.index)
+      ∙ ap (λ (n : ℕ). given (gives 0 0) n 0 (start_if (ahead rules.size place (origin_of origin)) (slot names name)
+      (with_core (placed_if core place (cells rules.size body)) (under (registered (header_of rules names p) name) (parts core queue rules names p))))) en
 
--- what the checks look at
-abbrev bare : Machine → Machine
-bare m = machine_of [] m.queue (header_of m.header.rules m.header.ring m.header.names [] m.header.threads)
+-- what the checks answered, which look at no core
+module _ (core queue : List ℕ) (rules : Rules) (names : Roster) (p : Processes) (name body : List ℕ) (place : ℕ) {t : Told}
+    (et : t ≡ tested_told (parts [] queue rules names p) name body place) where
+  abbrev whole : Machine
+  whole = parts core queue rules names p
 
--- what they answered, told by a number
-module _ (m : Machine) (name body : List ℕ) (place : ℕ) {t : Told} (et : t ≡ tested_told (bare m) name body place) {r : ℕ} (er : r ≡ t.number) where
   abbrev verdict : Verdict
-  verdict = first (tested_checks m name body place)
+  verdict = first (tested_checks whole name body place)
 
   told_in : (v : Verdict) → verdict ≡ v → t ≡ verdict_told v
   unfolding tested_told
   told_in v e = et ∙ ap verdict_told e
 
-  number_in : (v : Verdict) → verdict ≡ v → r ≡ (verdict_told v).number
-  number_in v e = er ∙ ap (λ (x : Told). x.number) (told_in v e)
-
   -- a refusal
-  pub refused-is : (origin : ℕ) → (r ≡ 0 → ⊥) → given t 0 0 m ≡ given_by (load_tested m name body origin place)
+  pub refused-is : (origin : ℕ) → (t.number ≡ 0 → ⊥) → given t 0 0 whole ≡ given_by (load_tested whole name body origin place)
   unfolding load_tested
   refused-is origin z = go verdict refl
     where
-      go : (v : Verdict) → verdict ≡ v → given t 0 0 m ≡ given_by (load_tested m name body origin place)
-      go accepted e = absurd (z (number_in accepted e))
+      go : (v : Verdict) → verdict ≡ v → given t 0 0 whole ≡ given_by (load_tested whole name body origin place)
+      go accepted e = absurd (z (ap (λ (x : Told). x.number) (told_in accepted e)))
       go (refusal n w) e =
-          ap (λ (x : Told). given x 0 0 m) (told_in (refusal n w) e)
-          ∙ ap (λ (v : Verdict). given_by (settle v m (loaded_if m (called name) body origin place))) {x = refusal n w} (sym e)
+          ap (λ (x : Told). given x 0 0 whole) (told_in (refusal n w) e)
+          ∙ ap (λ (v : Verdict). given_by (settle v whole (loaded_if whole (called name) body origin place))) {x = refusal n w} (sym e)
 
   -- none
-  pub all-passed : r ≡ 0 → verdict ≡ accepted
+  pub all-passed : t.number ≡ 0 → verdict ≡ accepted
   all-passed z = go verdict refl
     where
       go : (v : Verdict) → verdict ≡ v → verdict ≡ accepted
       go accepted e = e
       go (refusal n w) e =
-          absurd (without 0 (tested_checks m name body place) (others 0 (tested_checks m name body place) refl) n w e (sym (number_in (refusal n w) e) ∙ z))
+          absurd (without 0 (tested_checks whole name body place) (others 0 (tested_checks whole name body place) refl) n w e (sym (ap (λ (x : Told). x.number) (told_in (refusal n w) e)) ∙ z))
 
 -- a warrior that passed the checks, under the name that it is called
 module _ (m : Machine) (name body : List ℕ) (place : ℕ) (e : first (tested_checks m name body place) ≡ accepted) where
@@ -155,24 +138,12 @@ module _ (m : Machine) (name body : List ℕ) (place : ℕ) (e : first (tested_c
         number = sym (eight m.header (called name) refl) ∙ p.1.1.1.1.1.1.0;
       }
 
-  -- and under one that is not empty, by its index as it is found
-  module _ (n : 0 < length name) where
-    pub accepted-so : (i : ℕ) → i ≡ cond (leb m.header.names.held 16) (slot m.header.names name) m.header.names.held → Accepted m name body place i
-    accepted-so i found =
-        let index : i ≡ slot m.header.names name = found ∙ simp (le-leb m.header.names.held 16 accepted-called.few) in
-        subst (λ (k : ℕ). Accepted m name body place k) (sym index)
-        (subst (λ (k : List ℕ). Accepted m k body place (slot m.header.names k)) (called_is name n) accepted-called)
+  -- and under its index as it is found
+  pub accepted-so : (i : ℕ) → i ≡ cond (leb m.header.names.held 16) (slot m.header.names (called name)) m.header.names.held → Accepted m (called name) body place i
+  accepted-so i found =
+      let index : i ≡ slot m.header.names (called name) = found ∙ simp (le-leb m.header.names.held 16 accepted-called.few) in
+      subst (λ (k : ℕ). Accepted m (called name) body place k) (sym index) accepted-called
 
-    pub loads : (origin : ℕ) {X : Given} → X ≡ given_by (loaded_if m name body origin place) → X ≡ given_by (load_tested m name body origin place)
-    unfolding load_tested
-    loads origin x =
-        x
-        ∙ ap (λ (k : List ℕ). given_by (loaded_if m k body origin place)) (sym (called_is name n))
-        ∙ ap (λ (v : Verdict). given_by (settle v m (loaded_if m (called name) body origin place))) {x = accepted} (sym e)
-
--- an empty name is Warrior0
-pub unnamed-is : (m : Machine) (name body : List ℕ) (origin place : ℕ) → length name ≡ 0
-    → load_tested m (called []) body origin place ≡ load_tested m name body origin place
-unfolding load_tested
-unnamed-is m [] body origin place e = refl
-unnamed-is m (b ∷ bs) body origin place e = absurd (let z : ⊥ = omega arith in z)
+  pub loads : (origin : ℕ) {X : Given} → X ≡ given_by (loaded_if m (called name) body origin place) → X ≡ given_by (load_tested m name body origin place)
+  unfolding load_tested
+  loads origin x = x ∙ ap (λ (v : Verdict). given_by (settle v m (loaded_if m (called name) body origin place))) {x = accepted} (sym e)

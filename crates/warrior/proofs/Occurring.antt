@@ -13,7 +13,7 @@ use Rattle.machine.specs.Queue.{push, started}
 use Rattle.machine.specs.Soundness.{sound_header}
 use Rattle.machine.specs.Fresh.{blank, fresh}
 use Rattle.machine.specs.Load.{loaded, load}
-use Rattle.lent.specs.Parts.{names_of, no_ring, header_of, machine_of}
+use Rattle.lent.specs.Parts.{names_of, header_of, machine_of}
 
 -- DAT.F $0,$0, and an instruction with no such opcode
 abbrev pub dat : List ℕ
@@ -33,7 +33,8 @@ crowd (suc n) m = crowd n (load m ((65 + n) ∷ []) dat 65535 0).machine
 
 -- one name with the greatest next thread number, and no entry
 abbrev pub worn : Machine
-worn = machine_of (two 1).core (0 ∷ []) (header_of (of_size 2) no_ring (names_of 1 (65 ∷ replicate 511 0) (1 ∷ replicate 15 0)) (replicate 16 0) (4294967295 ∷ replicate 15 0))
+worn = machine_of (two 1).core (0 ∷ []) (header_of (of_size 2) (names_of 1 (65 ∷ replicate 511 0) (1 ∷ replicate 15 0))
+    (record { ring = record { head = 0; length = 0 }; steps = 0; counts = replicate 16 0; threads = 4294967295 ∷ replicate 15 0 }))
 
 unfoldable pub outcomes : List Outcome
 unfolding sound_word lawful lowest_fault cells register numbered push started sound_header fresh loaded load

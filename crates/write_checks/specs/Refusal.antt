@@ -1,8 +1,8 @@
 -- What writing gives, and its order of checks (01, 'Match file' and 'What a call gives back').
 -- Believed. Assumes nothing.
-use Rattle.std.specs.Prelude.{ℕ, not, ◌||◌, List, [], ◌∷◌, ◌++◌, leb, ltb, length, drop}
-use Rattle.answer.specs.declared.Answer.{Answer}
-use Rattle.answer.specs.Numbers.{Told, told, gives}
+use Rattle.std.specs.Prelude.{ℕ, Result, Ok, Err, not, ◌||◌, List, [], ◌∷◌, ◌++◌, leb, ltb, length, drop}
+use Rattle.answer.specs.declared.Error.{Error}
+use Rattle.answer.specs.Numbers.{Told, told_error, gives}
 use Rattle.program.specs.Program.{instructions, lowest_fault}
 use Rattle.metadata.specs.Metadata.{valid_name}
 use Rattle.machine.specs.State.{Check, check, Verdict, accepted, refusal, first}
@@ -14,8 +14,9 @@ pub record Written : Type 0 where
   pub length : ℕ
   pub output : List ℕ
 
-abbrev pub given : Answer → ℕ → List ℕ → Written
-given answer n output = record { told = told answer; length = n; output = output }
+abbrev pub given : Result ℕ Error → List ℕ → Written
+given (Ok n) output = record { told = gives 0 0; length = n; output = output }
+given (Err error) output = record { told = told_error error; length = 0; output = output }
 
 -- the output past the length written keeps its bytes; a refusal changes none, and gives the length 0
 abbrev pub settle : Verdict → List ℕ → List ℕ → Written

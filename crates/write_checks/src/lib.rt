@@ -5,62 +5,37 @@ ghost use Rattle.std.specs.Prelude.{◌≡◌, ◌&&◌, ◌+◌, ◌*◌, leb, 
 ghost use Rattle.answer.specs.Numbers.{told};
 ghost use Rattle.write_checks.specs.Refusal.{write_told};
 
-use answer::Answer;
+use answer::{Answer, Error};
 use machine::limits::LARGEST_CORE;
-use metadata::valid_name;
+use metadata::{Warrior, valid_name};
 use program::{len, lowest_fault};
 
 // Whether n warriors with bodies of `rest` bytes, and one more with a body of `len` bytes, are at most 16 and fit the output.
 fn has_room(n: usize, rest: usize, len: usize, room: usize) -> bool
     ensures { result ≡ (ltb n 16 && leb (4 + 43 * (n + 1) + rest + len) room) }
 {
-    if n > 15 {
-        return false;
-    }
-    let bodies = 4 + 43 * (n + 1);
-    if room < bodies {
-        return false;
-    }
-    if room - bodies < rest {
-        return false;
-    }
-    len <= room - bodies - rest
+    n < 16 && 4 + 43 * (n as u128 + 1) + rest as u128 + len as u128 <= room as u128
 }
 
-// The answer of the first check of writing that applies, or Done where none does: of M and one warrior, beside n warriors with bodies of `rest` bytes, in an output of `room` bytes.
-pub fn refusal(
-    n: usize,
-    rest: usize,
-    size: u32,
-    name: &[u8],
-    body: &[u8],
-    place: u32,
-    room: usize,
-) -> Answer
-    ensures { told result ≡ write_told size n name.now body.now place (4 + 43 * (n + 1) + rest + length body.now) room }
+// The first refusal of writing that applies, of M and one warrior, beside n warriors with bodies of `rest` bytes, in an output of `room` bytes.
+#[tactic(auto, unfolding(crate::specs::Refusal::write_told))]
+pub fn refusal(n: usize, rest: usize, size: u32, w: Warrior<'_>, room: usize) -> Answer
+    ensures { told result ≡ write_told size n w.entry.name.now w.entry.body.now w.entry.place (4 + 43 * (n + 1) + rest + length w.entry.body.now) room }
 {
-    if size < 1 {
-        return Answer::InvalidCoreSize;
+    if !(1..=LARGEST_CORE).contains(&size) {
+        return Err(Error::InvalidCoreSize);
     }
-    if size > LARGEST_CORE {
-        return Answer::InvalidCoreSize;
+    if (size as usize) < len(w.body) {
+        return Err(Error::WarriorTooLong);
     }
-    let count = len(body);
-    if (size as usize) < count {
-        return Answer::WarriorTooLong;
+    if let Some(index) = lowest_fault(w.body) {
+        return Err(Error::InvalidCode(index));
     }
-    let fault = lowest_fault(body);
-    if fault < count {
-        return Answer::InvalidCode(fault);
+    if !valid_name(w.name) || size <= w.place {
+        return Err(Error::InvalidNameOrPlace);
     }
-    if !valid_name(name) {
-        return Answer::InvalidNameOrPlace;
+    if !has_room(n, rest, w.body.len(), room) {
+        return Err(Error::NoRoom);
     }
-    if size <= place {
-        return Answer::InvalidNameOrPlace;
-    }
-    if !has_room(n, rest, body.len(), room) {
-        return Answer::NoRoom;
-    }
-    Answer::Done
+    Ok(())
 }
