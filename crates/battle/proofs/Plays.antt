@@ -2,14 +2,14 @@
 -- Assumes nothing.
 use Rattle.std.specs.Prelude.{Option, None, Some, Ok, Err}
 use Prim.Native.Nat.{ℕ, ◌≤◌, ◌<◌}
-use mathlib.Core.Path.{◌≡◌, refl, sym, ap, ap₂, subst, ◌∙◌}
+use mathlib.Core.Path.{◌≡◌, refl, sym, ap, subst, ◌∙◌}
 use mathlib.Core.Bool.{Bool, true, false, cond}
 use mathlib.Core.List.{List}
 use lib.Dec.{eqb, ltb}
 use lib.ListN.{length, replicate, length-replicate}
-use borrow.Author.Tests.{lt-ltb, le-ltb, eqb-true, eq-eqb}
+use borrow.Author.Tests.{lt-ltb, le-ltb, eqb-true}
 use Rattle.answer.specs.declared.Error.{Error}
-use Rattle.answer.specs.declared.Error.TheVariants.{InvalidCoreSize, InvalidMemory, WarriorTooLong, InvalidCode, InvalidNameOrPlace, NoRoom, NoRemainingProcesses, NumbersExhausted, UnsoundRecord, PrivateMemory, ExecuteDat, DivideByZero, Malformed, InvalidLimit}
+use Rattle.answer.specs.declared.Error.TheVariants.{InvalidCoreSize, Malformed}
 use Rattle.answer.specs.Numbers.{Told, told_error}
 use Rattle.machine.specs.declared.Rules.{Rules}
 use Rattle.machine.specs.State.{of_size, Machine, told_by}
@@ -24,78 +24,21 @@ use Rattle.match_file.proofs.Values.{no-fault, is_read, refusal-told}
 use Rattle.lent.specs.Given.{Given, given, given_by}
 use Rattle.match_load.specs.Loading.{load_match}
 use Rattle.match_load.proofs.Sound.{match-keeps}
-use Rattle.battle.specs.Match.{Result, refused, played, ran, after_loads, after_fresh, after_reading, result}
+use Rattle.battle.specs.Match.{Result, refused, ran, after_loads, after_fresh, after_reading, result}
 
--- an error's number is not 0
-pub not-zero : (e : Error) → eqb (told_error e).number 0 ≡ false
-not-zero InvalidCoreSize = refl
-not-zero InvalidMemory = refl
-not-zero WarriorTooLong = refl
-not-zero (InvalidCode index) = refl
-not-zero InvalidNameOrPlace = refl
-not-zero NoRoom = refl
-not-zero NoRemainingProcesses = refl
-not-zero NumbersExhausted = refl
-not-zero UnsoundRecord = refl
-not-zero PrivateMemory = refl
-not-zero (ExecuteDat place) = refl
-not-zero DivideByZero = refl
-not-zero (Malformed position) = refl
-not-zero InvalidLimit = refl
+-- a machine that is run is sound: fresh made it, and every warrior was loaded
+module _ (f : List ℕ) (rules : Rules) (core queue : List ℕ) (made : Told) {w s : ℕ} (m : Machine)
+    (fresh-gave : given made w s m ≡ given_by (fresh rules core queue)) (zero_is : made.number ≡ 0)
+    (loaded : Told) {v r : ℕ} (n : Machine) (loads-gave : given loaded v r n ≡ given_by (load_match m f).outcome)
+    (ran : Told) {x y : ℕ} (o : Machine) (run-gave : given ran x y o ≡ given_by (run None n)) where
+  sound : SoundMachine n
+  sound =
+      let number_is : (fresh rules core queue).number ≡ 0 = sym (ap (λ (g : Given). g.told.number) fresh-gave) ∙ zero_is in
+      let begins = subst SoundMachine (sym (ap (λ (g : Given). g.machine) fresh-gave)) (fresh-sound rules core queue number_is) in
+      subst SoundMachine (sym (ap (λ (g : Given). g.machine) loads-gave)) (match-keeps m f begins)
 
--- a fresh machine, the loads and the run
-module _ (f : List ℕ) (rules : Rules) (core queue : List ℕ) (t : Told) {w s : ℕ} (m : Machine) (made : given t w s m ≡ given_by (fresh rules core queue)) where
-  fresh-told : t ≡ told_by (fresh rules core queue)
-  fresh-told = ap (λ (x : Given). x.told) made
-
-  fresh-machine : m ≡ (fresh rules core queue).machine
-  fresh-machine = ap (λ (x : Given). x.machine) made
-
-  abbrev before-loads : Bool → Told → Machine → Result
-  before-loads b t k = cond b (after_loads (load_match k f).outcome) (refused t)
-
-  begins : before-loads (eqb t.number 0) t m ≡ after_fresh f (fresh rules core queue)
-  begins = ap₂ (λ (t : Told) (k : Machine). before-loads (eqb t.number 0) t k) fresh-told fresh-machine
-
-  pub stops-at-fresh : (e : Error) → t ≡ told_error e → refused (told_error e) ≡ after_fresh f (fresh rules core queue)
-  stops-at-fresh e is =
-      ap refused (sym is) ∙ sym (ap (λ (b : Bool). before-loads b t m) (ap (λ (u : Told). eqb u.number 0) is ∙ not-zero e)) ∙ begins
-
-  module _ (z : t.number ≡ 0) (u : Told) {v k : ℕ} (n : Machine) (loaded : given u v k n ≡ given_by (load_match m f).outcome) where
-    loads-told : u ≡ told_by (load_match m f).outcome
-    loads-told = ap (λ (x : Given). x.told) loaded
-
-    loads-machine : n ≡ (load_match m f).outcome.machine
-    loads-machine = ap (λ (x : Given). x.machine) loaded
-
-    abbrev before-run : Bool → Told → Machine → Result
-    before-run c u k = cond c (ran (run None k)) (refused u)
-
-    goes_on : before-run (eqb u.number 0) u n ≡ after_fresh f (fresh rules core queue)
-    goes_on =
-        ap₂ (λ (u : Told) (k : Machine). before-run (eqb u.number 0) u k) loads-told loads-machine
-        ∙ sym (ap (λ (c : Bool). before-loads c t m) (eq-eqb t.number 0 z))
-        ∙ begins
-
-    pub stops-at-loads : (e : Error) → u ≡ told_error e → refused (told_error e) ≡ after_fresh f (fresh rules core queue)
-    stops-at-loads e is =
-        ap refused (sym is) ∙ sym (ap (λ (c : Bool). before-run c u n) (ap (λ (x : Told). eqb x.number 0) is ∙ not-zero e)) ∙ goes_on
-
-    zero_is : (fresh rules core queue).number ≡ 0
-    zero_is = sym (ap (λ (t : Told). t.number) fresh-told) ∙ z
-
-    sound : SoundMachine n
-    sound = subst SoundMachine (sym loads-machine) (match-keeps m f (subst SoundMachine (sym fresh-machine) (fresh-sound rules core queue zero_is)))
-
-    module _ (answer : Told) (writes steps : ℕ) (k : Machine) (gave : given answer writes steps k ≡ given_by (run None n)) where
-      pub few : k.header.names.held ≤ 16
-      few = subst (λ (x : Machine). x.header.names.held ≤ 16) (sym (ap (λ (x : Given). x.machine) gave)) (run-keeps-sound None n sound).header.few
-
-      is-ran : played answer.number steps writes k.header ≡ ran (run None n)
-      is-ran = ap (λ (x : Given). played x.told.number x.steps x.writes x.machine.header) gave
-
-      pub runs : u.number ≡ 0 → played answer.number steps writes k.header ≡ after_fresh f (fresh rules core queue)
-      runs y = is-ran ∙ sym (ap (λ (c : Bool). before-run c u n) (eq-eqb u.number 0 y)) ∙ goes_on
+  pub runs-few : o.header.names.held ≤ 16
+  runs-few = subst (λ (k : Machine). k.header.names.held ≤ 16) (sym (ap (λ (g : Given). g.machine) run-gave)) (run-keeps-sound None n sound).header.few
 
 -- fresh looks at the lengths of what it is lent
 module _ (f : List ℕ) (rules : Rules) (core queue core' queue' : List ℕ) (a : length core' ≡ length core) (b : length queue' ≡ length queue) where

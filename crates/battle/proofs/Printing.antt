@@ -8,7 +8,7 @@ use native.Mathlib.Nat.{zero-add}
 use lib.ListN.{length}
 use lib.Seq.{sets, length-sets}
 use borrow.Author.Tests.{le-leb}
-use Rattle.std.specs.Prelude.{Result, Ok, Err}
+use Rattle.std.specs.Prelude.{Ok, Err}
 use Rattle.answer.specs.declared.Error.{Error}
 use Rattle.answer.specs.Numbers.{told, told_error}
 use Rattle.machine.specs.declared.Outcome.{Outcome}
@@ -28,12 +28,11 @@ module _ (f : List ℕ) where
       let p = subst (λ (r : spec.Result). Puts l m 0 q (text r)) is a in
       (p.out, p.to ∙ zero-add (length (printed f)), subst (λ (n : ℕ). q ≤ n) (sym (ap length p.out ∙ length-sets l 0 (printed f))) p.inside)
 
-  pub prints-run : (run : Outcome) {r : Result Outcome Error} {l m : List ℕ} {q : ℕ} → r ≡ Ok run → result_of r ≡ spec.result f → run.header.names.held ≤ 16
+  pub prints-run : (run : Outcome) {l m : List ℕ} {q : ℕ} → result_of (Ok run) ≡ spec.result f → run.header.names.held ≤ 16
       → Puts l m 0 q (run_text_if (told run.answer).number run.steps run.writes run.header) → Prints l m q
-  prints-run run {l = l} {m = m} {q = q} e is few a =
-      prints (result_of (Ok run)) (ap result_of (sym e) ∙ is)
+  prints-run run {l = l} {m = m} {q = q} is few a =
+      prints (result_of (Ok run)) is
       (subst (λ (b : Bool). Puts l m 0 q (cond b (run_text (told run.answer).number run.steps run.writes run.header) [])) (le-leb run.header.names.held 16 few) a)
 
-  pub prints-refusal : (error : Error) {r : Result Outcome Error} {l m : List ℕ} {q : ℕ} → r ≡ Err error → result_of r ≡ spec.result f
-      → Puts l m 0 q (refusal_text (told_error error)) → Prints l m q
-  prints-refusal error e is a = prints (result_of (Err error)) (ap result_of (sym e) ∙ is) a
+  pub prints-refusal : (error : Error) {l m : List ℕ} {q : ℕ} → result_of (Err error) ≡ spec.result f → Puts l m 0 q (refusal_text (told_error error)) → Prints l m q
+  prints-refusal error is a = prints (result_of (Err error)) is a
