@@ -4,7 +4,7 @@
 use crate::fault::Fault;
 use crate::reading::make;
 use memory::read_into;
-use std::io::Write;
+use std::io::{Read, Write};
 
 mod fault;
 mod kind;
@@ -14,18 +14,18 @@ mod reading;
 const LONGEST_TEXT: usize = 65536;
 
 // Reads a text, one byte more than the longest at most, and writes its file.
-fn run(rt: &HostRuntime) -> Result<(), Fault> {
+fn run(input: &mut impl Read, output: &mut impl Write) -> Result<(), Fault> {
     let mut text = [0; LONGEST_TEXT + 1];
-    let length = read_into(&mut rt.stdin(), &mut text).map_err(|_| Fault::Unreadable)?;
+    let length = read_into(input, &mut text).map_err(|_| Fault::Unreadable)?;
     if length > LONGEST_TEXT {
         return Err(Fault::TooLong);
     }
     let file = make(&text[..length])?;
-    rt.stdout().write_all(&file).map_err(|_| Fault::NotTaken)
+    output.write_all(&file).map_err(|_| Fault::NotTaken)
 }
 
 fn main(rt: HostRuntime) {
-    if let Err(fault) = run(&rt) {
+    if let Err(fault) = run(&mut rt.stdin(), &mut rt.stdout()) {
         let _ = eprintln!(rt; "make_match: {fault}");
     }
 }

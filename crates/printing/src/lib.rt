@@ -1,4 +1,4 @@
-// Puts the lines that `play` prints into memory, part by part (01, 'Match file', `play`).
+// Puts the lines that `play` prints into memory, part by part (01, 'Match file', `play`). The memory is lent and a length given back, since there is no heap.
 #![tactic(auto)]
 
 ghost use Rattle.std.specs.Prelude.{◌≡◌};
