@@ -32,10 +32,10 @@ use Rattle.demands.specs.Promise.{Promise}
 use Rattle.demands.specs.Made.{JustMade, Reply, Made, calls, last, MadeAgrees}
 use Rattle.demands.specs.Demands.{Demand1, Demand2, Demand3, Facts}
 use Rattle.demands.proofs.Kept.{code-keeps}
-use Rattle.demands.proofs.Refusals.{fresh-refuses, exported-fresh-refuses, load-refuses, step-refuses, cell-refuses, default-refuses}
+use Rattle.demands.proofs.Refusals.{fresh-refuses, exported-fresh-refuses, load-refuses, step-refuses, cell-refuses, cell-zero, default-refuses}
 use Rattle.demands.proofs.Runs.{run-refuses}
 use Rattle.demands.proofs.Matches.{match-refuses}
-use Rattle.demands.proofs.Files.{file-refuses, line-refuses, first-refuses, added-refuses}
+use Rattle.demands.proofs.Files.{file-refuses, file-zero, line-refuses, first-refuses, added-refuses}
 use Rattle.demands.proofs.Lists.{just-made, made-follows, made-agrees}
 
 pub demand-1 : Demand1
@@ -47,11 +47,12 @@ demand-1 =
       step = step-refuses;
       run = run-refuses;
       load_match = match-refuses;
-      get = λ m z told cell e. cell-refuses m z told.number cell (ap (λ (t : Told). t.number) e.0, e.1);
-      get_exported = cell-refuses;
+      get = λ m z r e. cell-refuses m z (told r).number (ap (λ (t : Told). t.number) e.0);
+      get_exported = λ m z number cell e. (cell-refuses m z number e.0, cell-zero m z cell e.1);
       default = default-refuses;
-      read = file-refuses;
-      read_line = λ f k told line e. line-refuses f k told e.0;
+      read = λ f r e. file-refuses f (told r) (ap told e ∙ read-told (fault f) (contents_in f));
+      read_exported = λ f t warriors size e. (file-refuses f t e.0, file-zero f t warriors size e);
+      read_line = λ f k r e. line-refuses f k (told r) (ap told e ∙ read-told (fault_at f k) (line_in f k));
       read_line_exported = λ f k line e. line-refuses f k (gives line.number line.position) e.0;
       write_first = first-refuses;
       write_added = added-refuses;

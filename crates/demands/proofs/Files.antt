@@ -11,8 +11,7 @@ use Rattle.answer.specs.Numbers.{Told, gives}
 use Rattle.laws.proofs.Every.{◌and◌}
 use Rattle.machine.specs.State.{Check, Verdict, accepted, refusal, first}
 use Rattle.machine.proofs.Checks.{is_accepted, passes-accepted, number_of}
-use Rattle.match_format.specs.declared.Fault.{Fault}
-use Rattle.match_format.specs.declared.Fault.TheVariants.{Nowhere, At}
+use Rattle.std.proofs.Common.{Option, Some, None}
 use Rattle.match_format.specs.Format.{Warrior, file}
 use Rattle.match_format.specs.Faults.{unless, ◌else◌, fault, fault_at}
 use Rattle.match_format.proofs.Chains.{else-left, else-right, unless-true}
@@ -22,28 +21,30 @@ use Rattle.match_file.proofs.Refusal.{thirteen}
 use Rattle.write_checks.specs.Refusal.{Written, settle}
 use Rattle.match_write.specs.Writing.{checks, write, write_added}
 use Rattle.round_trip.proofs.RoundTrip.{exact}
-use Rattle.demands.specs.Promise.{FilePromise, FirstPromise, AddedPromise}
-use Rattle.demands.specs.Refusals.{FileRefused, LineRefused, WriteRefused}
+use Rattle.demands.specs.Promise.{FileNumbers, FirstPromise, AddedPromise}
+use Rattle.demands.specs.Refusals.{FileRefused, FileZero, LineRefused, WriteRefused}
 
-nowhere : (x : Fault) → told_by x ≡ gives 0 0 → x ≡ Nowhere
-nowhere Nowhere t = refl
-nowhere (At p) t = absurd (false≢true (ap (λ (y : Told). eqb y.number 0) t))
+nowhere : (x : Option ℕ) → told_by x ≡ gives 0 0 → x ≡ None
+nowhere None t = refl
+nowhere (Some p) t = absurd (false≢true (ap (λ (y : Told). eqb y.number 0) t))
 
-pub file-refuses : (f : List ℕ) (told : Told) (warriors size : ℕ) → FilePromise f told warriors size → FileRefused f told warriors size
-file-refuses f told warriors size e =
+pub file-refuses : (f : List ℕ) (t : Told) → t ≡ told_by (fault f) → FileRefused f t
+file-refuses f t e =
     record {
-      by = λ p q.
-          (e.0 ∙ ap told_by q, e.1 ∙ ap (λ (x : Fault). zeroed x (warriors_in f)) q, e.2 ∙ ap (λ (x : Fault). zeroed x (size_in f)) q);
-      accepted = λ b i. e.0 ∙ ap told_by ((exact f b).1 i);
-      only = λ b t. (exact f b).0 (nowhere (fault f) (sym e.0 ∙ t));
+      by = λ p q. e ∙ ap told_by q;
+      accepted = λ b i. e ∙ ap told_by ((exact f b).1 i);
+      only = λ b z. (exact f b).0 (nowhere (fault f) (sym e ∙ z));
     }
+
+pub file-zero : (f : List ℕ) (t : Told) (warriors size : ℕ) → FileNumbers f t warriors size → FileZero f warriors size
+file-zero f t warriors size e p q = (e.1 ∙ ap (λ (x : Option ℕ). zeroed x (warriors_in f)) q, e.2 ∙ ap (λ (x : Option ℕ). zeroed x (size_in f)) q)
 
 pub line-refuses : (f : List ℕ) (k : ℕ) (told : Told) → told ≡ told_by (fault_at f k) → LineRefused f k told
 line-refuses f k told e =
     record {
       by = λ p q. e ∙ ap told_by q;
       accepted = λ b i h.
-          e ∙ ap (λ (x : Fault). told_by (x else unless (ltb k (warriors_in f)) 0)) ((exact f b).1 i)
+          e ∙ ap (λ (x : Option ℕ). told_by (x else unless (ltb k (warriors_in f)) 0)) ((exact f b).1 i)
           ∙ ap (λ (t : Bool). told_by (unless t 0)) (lt-ltb k (warriors_in f) h);
       only = λ b t.
           let n = nowhere (fault_at f k) (sym e ∙ t) in (

@@ -92,25 +92,28 @@ no_value true b n v e = sym (ap value_in e)
 no_value false true n v e = sym (ap value_in e)
 no_value false false n v e = absurd (true≢false (ap is_accepted e))
 
-pub cell-refuses : (m : Machine) (z : ℤ) (number : ℕ) (cell : Cell) → CellNumber m z number cell → CellRefused m z number cell
-unfolding read
-cell-refuses m z number cell e =
-    record {
-      by = λ n v f. (
-        e.0 ∙ ap (λ (w : Verdict). (settle w m word).number) f,
-        e.1 ∙ ap (λ (w : Verdict). unpacked (settle w m word).value) f ∙ ap unpacked (no_value (not (sound_header m)) (not (sound_word m.header.rules.size (word_at m z))) n v f),
-      );
-      exactly =
-          ap (λ (n : ℕ). eqb n 0) e.0
-          ∙ settled-exactly (λ n. eqb n 0) (read_checks m z) m word (number_of (λ n. eqb n 0 ≡ false) (read_checks m z) (refl and refl and tt)) refl;
-    }
-  where
-    word : Outcome
-    word = record { machine = m; number = 0; value = word_at m z; writes = 0; steps = 0; pushes = 0 }
+module _ (m : Machine) (z : ℤ) where
+  word : Outcome
+  word = record { machine = m; number = 0; value = word_at m z; writes = 0; steps = 0; pushes = 0 }
 
-pub default-refuses : (opcode a b : ℕ) (told : Told) (modifier : ℕ) → DefaultPromise opcode a b told modifier → DefaultRefused opcode a b told
-default-refuses opcode a b told modifier e =
+  pub cell-refuses : (number : ℕ) → number ≡ (read m z).number → CellRefused m z number
+  unfolding read
+  cell-refuses number e =
+      record {
+        by = λ n v f. e ∙ ap (λ (w : Verdict). (settle w m word).number) f;
+        exactly =
+            ap (λ (n : ℕ). eqb n 0) e
+            ∙ settled-exactly (λ n. eqb n 0) (read_checks m z) m word (number_of (λ n. eqb n 0 ≡ false) (read_checks m z) (refl and refl and tt)) refl;
+      }
+
+  pub cell-zero : (cell : Cell) → cell ≡ unpacked (read m z).value → CellZero m z cell
+  unfolding read
+  cell-zero cell e n v f =
+      e ∙ ap (λ (w : Verdict). unpacked (settle w m word).value) f ∙ ap unpacked (no_value (not (sound_header m)) (not (sound_word m.header.rules.size (word_at m z))) n v f)
+
+pub default-refuses : (opcode a b : ℕ) (r : Result ℕ Error) → DefaultPromise opcode a b r → DefaultRefused opcode a b (told r)
+default-refuses opcode a b r e =
     record {
-      by = λ q. e.0 ∙ ap told_of q;
-      accepted = λ q. e.0 ∙ ap (λ (t : Bool). cond t (gives 4 0) (gives 0 0)) q;
+      by = λ q. ap told e ∙ ap (λ (t : Bool). told (cond {A = Result ℕ Error} t (Err (InvalidCode 0)) (Ok (default_of opcode a b)))) (eq-eqb _ _ q);
+      accepted = λ q. ap told e ∙ ap (λ (t : Bool). told (cond {A = Result ℕ Error} t (Err (InvalidCode 0)) (Ok (default_of opcode a b)))) q;
     }

@@ -1,9 +1,10 @@
 -- THE MISSION'S THREE DEMANDS, in its order. The program is the code's calls (specs/Promise.antt): that these are the code's own contracts is
 -- `CodeKeeps` (specs/Kept.antt). Each demand names the theorem in proofs/ that proves it.
 -- Believed. Assumes nothing.
-use Rattle.std.specs.Prelude.{ℕ, ◌≡◌, true, false, List, [], ◌∷◌, ℤ, length}
+use Rattle.std.specs.Prelude.{ℕ, ◌≡◌, true, false, List, [], ◌∷◌, ℤ, length, Result}
 use Rattle.std.proofs.Math.Option.{some}
-use Rattle.answer.specs.Numbers.{Told, gives}
+use Rattle.answer.specs.declared.Error.{Error}
+use Rattle.answer.specs.Numbers.{Told, gives, told}
 use Rattle.cell.specs.declared.Cell.{Cell}
 use Rattle.machine.specs.Run.{Ceiling}
 use Rattle.machine.specs.declared.Rules.{Rules}
@@ -25,6 +26,7 @@ use Rattle.reference.specs.Core.{Core, new}
 use Rattle.reference.specs.Refinement.{Domain, Refinement}
 use Rattle.match_format.specs.Format.{Warrior}
 use Rattle.match_format.specs.Faults.{fault}
+use Rattle.match_file.specs.declared.Contents.{Contents}
 use Rattle.match_file.specs.declared.Line.{Line}
 use Rattle.match_file.specs.Reading.{size_in, warriors_of}
 use Rattle.match_file.specs.Refusal.{malformed}
@@ -32,10 +34,10 @@ use Rattle.write_checks.specs.Refusal.{Written}
 use Rattle.match_write.specs.Writing.{checks}
 use Rattle.sumacadze.specs.declared.file.Line as exported
 use Rattle.round_trip.specs.RoundTrip.{FirstReads, AddedReads, WritesBack}
-use Rattle.demands.specs.Promise.{Promise, MatchPromise, FreshPromise, FreshNumber, CellPromise, CellNumber, DefaultPromise, FilePromise, LinePromise, LineNumbers, FirstPromise, AddedPromise}
+use Rattle.demands.specs.Promise.{Promise, MatchPromise, FreshPromise, FreshNumber, CellPromise, CellNumber, DefaultPromise, FilePromise, FileNumbers, LinePromise, LineNumbers, FirstPromise, AddedPromise}
 use Rattle.demands.specs.Kept.{CodeKeeps}
 use Rattle.demands.specs.Made.{JustMade, Reply, Made, calls, last, written, MadeAgrees}
-use Rattle.demands.specs.Refusals.{Refused, FreshRefused, CellRefused, RunRefused, MatchRefused, DefaultRefused, FileRefused, LineRefused, WriteRefused}
+use Rattle.demands.specs.Refusals.{Refused, FreshRefused, CellRefused, CellZero, RunRefused, MatchRefused, DefaultRefused, FileRefused, FileZero, LineRefused, WriteRefused}
 
 -- DEMAND 1. A call refuses by 01's numbers, in 01's order, and leaves the machine as it was (a run: as its last step left it; a match loaded in one
 -- call: as the load before the refused one left it); what no row names is accepted.
@@ -55,13 +57,14 @@ pub record Demand1 : Type 0 where
   -- A match in one call: 9 (header), 13, 1, then its loads
   pub load_match : (f : List ℕ) (m : Machine) (g : Given) (warrior : ℕ) → MatchPromise f m g warrior → MatchRefused f m g warrior
   -- Cell reading: 9 (header), 9 (cell)
-  pub get : (m : Machine) (z : ℤ) (told : Told) (cell : Cell) → CellPromise m z told cell → CellRefused m z told.number cell
-  pub get_exported : (m : Machine) (z : ℤ) (number : ℕ) (cell : Cell) → CellNumber m z number cell → CellRefused m z number cell
+  pub get : (m : Machine) (z : ℤ) (r : Result Cell Error) → CellPromise m z r → CellRefused m z (told r).number
+  pub get_exported : (m : Machine) (z : ℤ) (number : ℕ) (cell : Cell) → CellNumber m z number cell → CellRefused m z number × CellZero m z cell
   -- Default modifier: 4, index 0
-  pub default : (opcode a b : ℕ) (told : Told) (modifier : ℕ) → DefaultPromise opcode a b told modifier → DefaultRefused opcode a b told
+  pub default : (opcode a b : ℕ) (r : Result ℕ Error) → DefaultPromise opcode a b r → DefaultRefused opcode a b (told r)
   -- Reading a match file: 13
-  pub read : (f : List ℕ) (told : Told) (warriors size : ℕ) → FilePromise f told warriors size → FileRefused f told warriors size
-  pub read_line : (f : List ℕ) (k : ℕ) (told : Told) (line : Line) → LinePromise f k told line → LineRefused f k told
+  pub read : (f : List ℕ) (r : Result Contents Error) → FilePromise f r → FileRefused f (told r)
+  pub read_exported : (f : List ℕ) (t : Told) (warriors size : ℕ) → FileNumbers f t warriors size → FileRefused f t × FileZero f warriors size
+  pub read_line : (f : List ℕ) (k : ℕ) (r : Result Line Error) → LinePromise f k r → LineRefused f k (told r)
   pub read_line_exported : (f : List ℕ) (k : ℕ) (line : exported.Line) → LineNumbers f k line → LineRefused f k (gives line.number line.position)
   -- Writing: 13, 1, 3, 4, 5, 6
   pub write_first : (size : ℕ) (w : Warrior) (output : List ℕ) (g : Written) → FirstPromise size w output g → WriteRefused (checks size [] w (length output)) output g

@@ -16,7 +16,7 @@ use Rattle.answer.specs.Numbers.{told, gives}
 use Rattle.lent.specs.Parts.{machine_of}
 use Rattle.lent.specs.Given.{given}
 use Rattle.account.specs.Calls.{Load, Step, Run}
-use Rattle.match_format.specs.Format.{warrior}
+use Rattle.match_format.specs.Format.{handed}
 use Rattle.write_checks.specs.Refusal as writing
 use Rattle.sumacadze.specs.Report.{ceiling_if, cell_of}
 use Rattle.sim.specs.contracts.fresh as fresh
@@ -61,7 +61,7 @@ use Rattle.sumacadze.specs.contracts.file.sumacadze_read as sumacadze_read
 use Rattle.sumacadze.proofs.file.sumacadze_read.Symbol as sumacadze_read_code
 use Rattle.sumacadze.specs.contracts.file.sumacadze_read_line as sumacadze_read_line
 use Rattle.sumacadze.proofs.file.sumacadze_read_line.Symbol as sumacadze_read_line_code
-use Rattle.demands.specs.Promise.{Promise, MatchPromise, FreshPromise, FreshNumber, CellPromise, CellNumber, DefaultPromise, FilePromise, LinePromise, LineNumbers, NamePromise, BodyPromise, FirstPromise, AddedPromise}
+use Rattle.demands.specs.Promise.{Promise, MatchPromise, FreshPromise, FreshNumber, CellPromise, CellNumber, DefaultPromise, FilePromise, FileNumbers, LinePromise, LineNumbers, NamePromise, BodyPromise, FirstPromise, AddedPromise}
 
 -- a fact of a call's arguments a, its result r and the lent memory at its exit e
 abbrev pub Fact : Ended → Type 1
@@ -87,9 +87,9 @@ pub record CodeKeeps : Type 2 where
   -- the header by value
   pub fresh : Keeps fresh.ended fresh_code.code fresh_code.name (λ κs a r e. FreshPromise a.0 a.1.0.now a.1.1.0.now
       (given (told r.answer) r.writes r.steps (machine_of e.1.0.now e.1.1.0.now r.header)))
-  pub get : Keeps get.ended get_code.code get_code.name (λ κs a r e. CellPromise (machine_of a.0.now a.1.0.now a.1.1.0) a.1.1.1.0 (told r.answer) r.cell)
+  pub get : Keeps get.ended get_code.code get_code.name (λ κs a r e. CellPromise (machine_of a.0.now a.1.0.now a.1.1.0) a.1.1.1.0 r)
   pub load : Keeps load.ended load_code.code load_code.name (λ κs a r e.
-      Promise (Load a.1.1.1.0.now a.1.1.1.1.0.now a.1.1.1.1.1.0 a.1.1.1.1.1.1.0) (machine_of a.0.now a.1.0.now a.1.1.0)
+      Promise (Load a.1.1.1.0.name.now a.1.1.1.0.body.now a.1.1.1.0.origin a.1.1.1.0.place) (machine_of a.0.now a.1.0.now a.1.1.0)
       (given (told r.answer) r.writes r.steps (machine_of e.0.now e.1.0.now r.header)))
   pub step : Keeps step.ended step_code.code step_code.name (λ κs a r e. Promise Step (machine_of a.0.now a.1.0.now a.1.1.0)
       (given (told r.answer) r.writes r.steps (machine_of e.0.now e.1.0.now r.header)))
@@ -115,17 +115,15 @@ pub record CodeKeeps : Type 2 where
       MatchPromise a.1.1.1.0.now (machine_of a.0.now a.1.0.now a.1.1.0)
       (given (gives r.report.number r.report.value) r.report.writes r.report.steps (machine_of e.0.now e.1.0.now r.header)) r.warrior)
   -- the default modifier
-  pub default : Keeps default.ended default_code.code default_code.name (λ κs a r e. DefaultPromise a.0 a.1.0 a.1.1.0 (told r.answer) r.modifier)
+  pub default : Keeps default.ended default_code.code default_code.name (λ κs a r e. DefaultPromise a.0 a.1.0 a.1.1.0 r)
   -- match files, read by value and exported, and written
-  pub read : Keeps read.ended read_code.code read_code.name (λ κs a r e. FilePromise a.0.now (told r.answer) r.warriors r.size)
-  pub read_line : Keeps read_line.ended read_line_code.code read_line_code.name (λ κs a r e. LinePromise a.0.now a.1.0 (told r.answer) r.line)
+  pub read : Keeps read.ended read_code.code read_code.name (λ κs a r e. FilePromise a.0.now r)
+  pub read_line : Keeps read_line.ended read_line_code.code read_line_code.name (λ κs a r e. LinePromise a.0.now a.1.0 r)
   pub name : Keeps name.ended name_code.code name_code.name (λ κs a r e. NamePromise a.0.now a.1.0 r.now)
   pub body : Keeps body.ended body_code.code body_code.name (λ κs a r e. BodyPromise a.0.now a.1.0 r.now)
-  pub sumacadze_read : Keeps sumacadze_read.ended sumacadze_read_code.code sumacadze_read_code.name (λ κs a r e. FilePromise a.0.now (gives r.number r.position) r.warriors r.size)
+  pub sumacadze_read : Keeps sumacadze_read.ended sumacadze_read_code.code sumacadze_read_code.name (λ κs a r e. FileNumbers a.0.now (gives r.number r.position) r.warriors r.size)
   pub sumacadze_read_line : Keeps sumacadze_read_line.ended sumacadze_read_line_code.code sumacadze_read_line_code.name (λ κs a r e. LineNumbers a.0.now a.1.0 r)
   pub write_first : Keeps write_first.ended write_first_code.code write_first_code.name (λ κs a r e.
-      FirstPromise a.0 (warrior a.1.0.now a.1.1.0.now a.1.1.1.0 a.1.1.1.1.0) a.1.1.1.1.1.0.now
-      (writing.given r.answer r.length e.1.1.1.1.1.0.now))
+      FirstPromise a.0 (handed a.1.0) a.1.1.0.now (writing.given r e.1.1.0.now))
   pub write_added : Keeps write_added.ended write_added_code.code write_added_code.name (λ κs a r e.
-      AddedPromise a.0.now (warrior a.1.0.now a.1.1.0.now a.1.1.1.0 a.1.1.1.1.0) a.1.1.1.1.1.0.now
-      (writing.given r.answer r.length e.1.1.1.1.1.0.now))
+      AddedPromise a.0.now (handed a.1.0) a.1.1.0.now (writing.given r e.1.1.0.now))

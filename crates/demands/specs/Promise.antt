@@ -1,11 +1,12 @@
 -- What each call promises, as a proposition in the words of its `ensures`: the call, the record before, what was given and the record after.
 -- specs/Kept.antt says of the code that these are its contracts. 'Exported' are the calls of crate sumacadze, in numbers: crate sumacadze_c gives each its symbol, under the same clauses.
 -- Believed. Assumes nothing.
-use Rattle.std.specs.Prelude.{ℕ, ◌*◌, ◌≡◌, List, ℤ}
-use Rattle.answer.specs.Numbers.{Told, gives}
+use Rattle.std.specs.Prelude.{ℕ, ◌*◌, ◌≡◌, List, ℤ, Result, IfOk}
+use Rattle.answer.specs.declared.Error.{Error}
+use Rattle.answer.specs.Numbers.{Told, gives, told}
 use Rattle.cell.specs.declared.Cell.{Cell}
 use Rattle.cell.specs.Cells.{unpacked}
-use Rattle.types.specs.Defaults.{default_of, told_of}
+use Rattle.types.specs.Defaults.{default_of, defaulted}
 use Rattle.machine.specs.declared.Rules.{Rules}
 use Rattle.machine.specs.State.{Machine}
 use Rattle.machine.specs.Fresh.{fresh}
@@ -17,8 +18,9 @@ use Rattle.account.specs.Calls.{Call, Load, Step, Run}
 use Rattle.account.specs.Lists.{Listed, One, LoadMatch}
 use Rattle.match_format.specs.Format.{Warrior}
 use Rattle.match_format.specs.Faults.{fault, fault_at}
+use Rattle.match_file.specs.declared.Contents.{Contents}
 use Rattle.match_file.specs.declared.Line.{Line}
-use Rattle.match_file.specs.Reading.{told_by, zeroed, emptied, cleared, warriors_in, size_in, line_at, line_in, name_start, name_length, body_start, count_of, warrior_of}
+use Rattle.match_file.specs.Reading.{told_by, unless_malformed, zeroed, emptied, contents_in, warriors_in, size_in, line_at, line_in, name_start, name_length, body_start, count_of, warrior_of}
 use Rattle.match_load.specs.Loading.{load_match}
 use Rattle.write_checks.specs.Refusal.{Written}
 use Rattle.match_write.specs.Writing.{write_first, write_added}
@@ -47,26 +49,30 @@ FreshPromise rules core queue g = g ≡ given_by (fresh rules core queue)
 abbrev pub FreshNumber : Rules → List ℕ → List ℕ → ℕ → Machine → Type 0
 FreshNumber rules core queue number m = (number ≡ (fresh rules core queue).number) × (m ≡ (fresh rules core queue).machine)
 
--- cell reading, by value: the answer and the cell
-abbrev pub CellPromise : Machine → ℤ → Told → Cell → Type 0
-CellPromise m z told cell = (told ≡ gives (read m z).number 0) × (cell ≡ unpacked (read m z).value)
+-- cell reading, by value: the answer, and the cell where it is not refused
+abbrev pub CellPromise : Machine → ℤ → Result Cell Error → Type 0
+CellPromise m z r = (told r ≡ gives (read m z).number 0) × IfOk r (λ c. c ≡ unpacked (read m z).value)
 
 -- exported: the number and the cell
 abbrev pub CellNumber : Machine → ℤ → ℕ → Cell → Type 0
 CellNumber m z number cell = (number ≡ (read m z).number) × (cell ≡ unpacked (read m z).value)
 
--- the default modifier of an opcode and two modes: the answer and the modifier
-abbrev pub DefaultPromise : ℕ → ℕ → ℕ → Told → ℕ → Type 0
-DefaultPromise opcode a b told modifier = (told ≡ told_of (default_of opcode a b)) × (modifier ≡ default_of opcode a b)
+-- the default modifier of an opcode and two modes: it, or the error
+abbrev pub DefaultPromise : ℕ → ℕ → ℕ → Result ℕ Error → Type 0
+DefaultPromise opcode a b r = r ≡ defaulted (default_of opcode a b)
 
--- a match file read, by value and exported: the answer, how many warriors it has, and M
-abbrev pub FilePromise : List ℕ → Told → ℕ → ℕ → Type 0
-FilePromise f told warriors size =
+-- a match file read, by value: how many warriors it has and M, or the error
+abbrev pub FilePromise : List ℕ → Result Contents Error → Type 0
+FilePromise f r = r ≡ unless_malformed (fault f) (contents_in f)
+
+-- exported: the answer, how many warriors it has, and M
+abbrev pub FileNumbers : List ℕ → Told → ℕ → ℕ → Type 0
+FileNumbers f told warriors size =
     (told ≡ told_by (fault f)) × (warriors ≡ zeroed (fault f) (warriors_in f)) × (size ≡ zeroed (fault f) (size_in f))
 
--- the line of warrior k, by value
-abbrev pub LinePromise : List ℕ → ℕ → Told → Line → Type 0
-LinePromise f k told line = (told ≡ told_by (fault_at f k)) × (line ≡ cleared (fault_at f k) (line_in f k))
+-- the line of warrior k, by value: it, or the error
+abbrev pub LinePromise : List ℕ → ℕ → Result Line Error → Type 0
+LinePromise f k r = r ≡ unless_malformed (fault_at f k) (line_in f k)
 
 -- exported: which bytes of the file are its name and its body, its origin and its place
 abbrev pub LineNumbers : List ℕ → ℕ → exported.Line → Type 0

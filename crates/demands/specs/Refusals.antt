@@ -1,7 +1,7 @@
 -- Demand 1 call by call: refused by which number, in which order, with the record unchanged; and refused nowhere else.
 -- A row of an order is a `Check` (crates/machine/specs/State.antt); each order stands beside its call's definition.
 -- Believed. Assumes nothing.
-use Rattle.std.specs.Prelude.{ℕ, ◌-◌, ◌<◌, ◌≡◌, true, false, List, eqb, ℤ}
+use Rattle.std.specs.Prelude.{ℕ, ◌-◌, ◌<◌, ◌≡◌, true, false, List, eqb, ℤ, Some}
 use Rattle.answer.specs.Numbers.{Told, gives}
 use Rattle.laws.specs.Lists.{among}
 use Rattle.cell.specs.declared.Cell.{Cell}
@@ -15,7 +15,6 @@ use Rattle.machine.specs.Load.{load_checks}
 use Rattle.machine.specs.Step.{step_checks, executes}
 use Rattle.machine.specs.Run.{Ceiling, plays, ceiling_of, read_checks}
 use Rattle.lent.specs.Given.{Given, given}
-use Rattle.match_format.specs.declared.Fault.TheVariants.{At}
 use Rattle.match_format.specs.Format.{Bytes, IsFile}
 use Rattle.match_format.specs.Faults.{fault, fault_at}
 use Rattle.match_file.specs.Reading.{warriors_in, warrior_of}
@@ -33,10 +32,13 @@ pub record FreshRefused (rules : Rules) (core queue : List ℕ) (number : ℕ) (
   pub by : (n v : ℕ) → first (fresh_checks rules core queue) ≡ refusal n v → (number ≡ n) × (m ≡ lent core queue)
   pub exactly : eqb number 0 ≡ passes (fresh_checks rules core queue)
 
--- cell reading: all zero; it is lent nothing that it could change
-pub record CellRefused (m : Machine) (z : ℤ) (number : ℕ) (cell : Cell) : Type 0 where
-  pub by : (n v : ℕ) → first (read_checks m z) ≡ refusal n v → (number ≡ n) × (cell ≡ unpacked 0)
+-- cell reading: it is lent nothing that it could change; exported, the cell is all zero
+pub record CellRefused (m : Machine) (z : ℤ) (number : ℕ) : Type 0 where
+  pub by : (n v : ℕ) → first (read_checks m z) ≡ refusal n v → number ≡ n
   pub exactly : eqb number 0 ≡ passes (read_checks m z)
+
+abbrev pub CellZero : Machine → ℤ → Cell → Type 0
+CellZero m z cell = (n v : ℕ) → first (read_checks m z) ≡ refusal n v → cell ≡ unpacked 0
 
 -- a run: 9 (header), then its steps. A refusal inside it is that of the step which it would take next: the steps before are answered 0, and the record is
 -- as the last of them left it; and where a row applies to the step after k that are answered 0, it is refused there
@@ -69,15 +71,18 @@ pub record DefaultRefused (opcode a b : ℕ) (told : Told) : Type 0 where
   pub by : default_of opcode a b ≡ unnamed → told ≡ gives 4 0
   pub accepted : eqb (default_of opcode a b) unnamed ≡ false → told ≡ gives 0 0
 
--- reading a match file: 13 with the position of the first fault, and all zero; accepted are exactly the files of the format
-pub record FileRefused (f : List ℕ) (told : Told) (warriors size : ℕ) : Type 0 where
-  pub by : (p : ℕ) → fault f ≡ At p → (told ≡ gives 13 p) × (warriors ≡ 0) × (size ≡ 0)
+-- reading a match file: 13 with the position of the first fault; accepted are exactly the files of the format; exported, the numbers are zero
+pub record FileRefused (f : List ℕ) (told : Told) : Type 0 where
+  pub by : (p : ℕ) → fault f ≡ Some p → told ≡ gives 13 p
   pub accepted : Bytes f → IsFile f → told ≡ gives 0 0
   pub only : Bytes f → told ≡ gives 0 0 → IsFile f
 
+abbrev pub FileZero : List ℕ → ℕ → ℕ → Type 0
+FileZero f warriors size = (p : ℕ) → fault f ≡ Some p → (warriors ≡ 0) × (size ≡ 0)
+
 -- reading a warrior's line: a warrior number not below n is refused too
 pub record LineRefused (f : List ℕ) (k : ℕ) (told : Told) : Type 0 where
-  pub by : (p : ℕ) → fault_at f k ≡ At p → told ≡ gives 13 p
+  pub by : (p : ℕ) → fault_at f k ≡ Some p → told ≡ gives 13 p
   pub accepted : Bytes f → IsFile f → k < warriors_in f → told ≡ gives 0 0
   pub only : Bytes f → told ≡ gives 0 0 → IsFile f × (k < warriors_in f)
 

@@ -10,29 +10,10 @@ use lib.ListN.{length, replicate}
 use borrow.Author.Tests.{leb-true}
 use Rattle.laws.specs.Lists.{every}
 use Rattle.laws.proofs.Tests.{both}
-use Rattle.std.specs.Prelude.{Option, Some, None, MatchOption, option_map, is_some, position, not, cond}
+use Rattle.std.specs.Prelude.{Option, Some, None, option_map, position, not, cond}
 use Rattle.std.specs.List.{position_from}
 use Rattle.std.proofs.lemmas.Iterator.Adapters.{position_from-zero}
 use Rattle.match_format.specs.Faults.{unless, ◌else◌, field, faulty, within}
-
--- what the code's `or_else` gives
-pub or_else : {P : Type 0} (o r x : Option ℕ) → MatchOption o P (λ p. r ≡ Some p) → (P → r ≡ x) → r ≡ (o else x)
-or_else None r x h e = e h
-or_else (Some p) r x h e = h
-
--- and what follows it
-pub then : (o r x y : Option ℕ) → r ≡ (o else x) → (r else y) ≡ (o else x else y)
-then None r x y e = ap (λ o. o else y) e
-then (Some p) r x y e = ap (λ o. o else y) e
-
--- of a fault, and of none, before another
-pub some-else : (g h : Option ℕ) → is_some g ≡ true → (g else h) ≡ g
-some-else (Some p) h e = refl
-some-else None h e = cc
-
-pub none-else : (g h : Option ℕ) → is_some g ≡ false → (g else h) ≡ h
-none-else None h e = refl
-none-else (Some p) h e = cc
 
 -- a fault is not nowhere
 pub somewhere : {X : Type 0} {p : ℕ} → Some p ≡ None → X

@@ -1,7 +1,7 @@
 -- The contents, on plain values: what each of the reader's tests says of the first fault.
 -- Assumes nothing.
-use mathlib.Core.Path.{◌≡◌, refl, ◌∙◌}
-use mathlib.Core.Bool.{true, false}
+use mathlib.Core.Path.{◌≡◌, refl, sym, ◌∙◌}
+use mathlib.Core.Bool.{true}
 use mathlib.Core.List.{List}
 use Prim.Native.Nat.{ℕ, suc, ◌+◌, ◌-◌, ◌*◌, ◌≤◌, ◌<◌}
 use native.Mathlib.Omega.{arith}
@@ -11,10 +11,10 @@ use borrow.Author.Tests.{le-leb, eq-eqb, leb-true, eqb-true}
 use Rattle.laws.proofs.Lists.{fall, done}
 use Rattle.encoding.specs.Bytes.{part}
 use Rattle.metadata.specs.Metadata.{valid_byte}
-use Rattle.std.specs.Prelude.{Option, None, is_some}
+use Rattle.std.specs.Prelude.{Option, Some, None}
 use Rattle.match_format.specs.Format.{number}
 use Rattle.match_format.specs.Faults.{◌else◌, field, faulty, within, name_fault, padding_fault, line_fault, lines_fault, end_fault, fault}
-use Rattle.match_format.proofs.Chains.{some-else, none-else, else-left, else-right, field_fits, field-right}
+use Rattle.match_format.proofs.Chains.{else-left, else-right, field_fits, field-right}
 
 -- the fields after the padding
 abbrev rest_fault : List ℕ → ℕ → ℕ → Option ℕ
@@ -77,11 +77,11 @@ module _ (f : List ℕ) (p s : ℕ) where
   turn : (n i : ℕ) → i < n → lines_fault f p s (n - i) ≡ (line_fault f p s else lines_fault f (p + 43) (s + 12 * number f (p + 37) 2) (n - (i + 1)))
   turn n i h = rw (fall n i h) (lines_more (n - (i + 1)))
 
-  pub stops : (n i : ℕ) → i < n → is_some (line_fault f p s) ≡ true → lines_fault f p s (n - i) ≡ line_fault f p s
-  stops n i h e = turn n i h ∙ some-else (line_fault f p s) (lines_fault f (p + 43) (s + 12 * number f (p + 37) 2) (n - (i + 1))) e
+  pub stops : (n i q : ℕ) → i < n → Some q ≡ line_fault f p s → Some q ≡ lines_fault f p s (n - i)
+  stops n i q h e = sym (turn n i h ∙ rw (← e))
 
-  pub goes : (n i q t : ℕ) → i < n → is_some (line_fault f p s) ≡ false → p + 43 ≡ q → s + 12 * number f (p + 37) 2 ≡ t → lines_fault f p s (n - i) ≡ lines_fault f q t (n - (i + 1))
-  goes n i q t h e d g = turn n i h ∙ none-else (line_fault f p s) (lines_fault f (p + 43) (s + 12 * number f (p + 37) 2) (n - (i + 1))) e ∙ rw (d, g)
+  pub goes : (n i q t : ℕ) → i < n → None ≡ line_fault f p s → p + 43 ≡ q → t ≡ s + 12 * number f (p + 37) 2 → lines_fault f p s (n - i) ≡ lines_fault f q t (n - (i + 1))
+  goes n i q t h e d g = turn n i h ∙ rw (← e, d, ← g)
 
   pub ends : (n i : ℕ) → n ≤ i → lines_fault f p s (n - i) ≡ end_fault f s
   ends n i h = rw (done n i h) lines_none

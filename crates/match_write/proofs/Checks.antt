@@ -9,9 +9,11 @@ use lib.Dec.{leb, ltb}
 use lib.ListN.{length, length-drop}
 use lib.Seq.{sets}
 use borrow.Author.Tests.{leb-false, ltb-false, not-false}
-use Rattle.answer.specs.declared.Answer.{Answer}
-use Rattle.answer.specs.declared.Answer.TheVariants.{Done}
-use Rattle.answer.specs.Numbers.{Told, told}
+use Rattle.std.specs.Prelude.{Ok, Err}
+use Rattle.answer.specs.declared.Error.{Error}
+use Rattle.answer.specs.Numbers.{Told, told_error, gives}
+use Rattle.answer.proofs.Numbers.{not_zero}
+use Rattle.laws.proofs.Stores.{stored}
 use Rattle.laws.proofs.Tests.{neither}
 use Rattle.metadata.specs.Metadata.{valid_name}
 use Rattle.metadata.proofs.Names.{valid-name}
@@ -21,12 +23,8 @@ use Rattle.match_format.specs.Format.{Warrior, file}
 use Rattle.match_file.specs.Reading.{warriors_at}
 use Rattle.match_format.proofs.Format.{length_more}
 use Rattle.match_file.proofs.Warriors.{length-warriors, bodies-are, short-names}
-use Rattle.write_checks.specs.Refusal.{Written, given, settle, write_checks, write_told}
+use Rattle.write_checks.specs.Refusal.{given, settle, write_checks, write_told}
 use Rattle.match_write.specs.Writing.{checks, write, Earlier}
-use Rattle.laws.proofs.Stores.{stored}
-
-pub refusing : {answer A : Answer} {n : ℕ} (out : List ℕ) {X : Written} → (answer ≡ A) × (n ≡ 0) → given A 0 out ≡ X → given answer n out ≡ X
-refusing out r e = ap₂ (λ (a : Answer) (k : ℕ). given a k out) r.0 r.1 ∙ e
 
 module _ (f : List ℕ) (n start size : ℕ) (w : Warrior) (out : List ℕ) (earlier : Earlier f n start) where
   abbrev ws : List Warrior
@@ -52,52 +50,51 @@ module _ (f : List ℕ) (n start size : ℕ) (w : Warrior) (out : List ℕ) (ear
       go true v = ap₂ (λ (x y : ℕ). first (write_checks size x w.name w.body w.place y (length out))) how-many (how-long v)
       go false v = simp v
 
-  module _ (answer : Answer) (et : told answer ≡ write_told size n w.name w.body w.place room (length out)) {r : ℕ} (er : r ≡ (told answer).number) where
-    abbrev verdict : Verdict
-    verdict = first (write_checks size n w.name w.body w.place room (length out))
+  abbrev verdict : Verdict
+  verdict = first (write_checks size n w.name w.body w.place room (length out))
 
-    number_in : (v : Verdict) → verdict ≡ v → r ≡ (settle v [] []).told.number
-    unfolding write_told
-    number_in v e = er ∙ ap (λ (x : Told). x.number) (et ∙ ap (λ (v : Verdict). (settle v [] []).told) e)
+  tells : {t : Told} (v : Verdict) → t ≡ write_told size n w.name w.body w.place room (length out) → verdict ≡ v → t ≡ (settle v [] []).told
+  unfolding write_told
+  tells v t e = t ∙ ap (λ (v : Verdict). (settle v [] []).told) e
 
-    -- a refusal
-    pub refused-is : (r ≡ 0 → ⊥) → given answer 0 out ≡ write size ws w out
-    unfolding write write_told
-    refused-is z = go verdict refl
+  -- a refusal
+  pub refused : (error : Error) → told_error error ≡ write_told size n w.name w.body w.place room (length out) → given (Err error) out ≡ write size ws w out
+  unfolding write
+  refused error t = go verdict refl
+    where
+      go : (v : Verdict) → verdict ≡ v → given (Err error) out ≡ write size ws w out
+      go accepted e = absurd (not_zero error (ap (λ (t : Told). t.number) (tells accepted t e)))
+      go (refusal k x) e =
+          ap (λ (t : Told). record { told = t; length = 0; output = out }) (tells (refusal k x) t e)
+          ∙ ap (λ (v : Verdict). settle v (file size (ws ++ (w ∷ []))) out) {x = refusal k x} (sym (same_first ∙ e))
+
+  module _ (t : gives 0 0 ≡ write_told size n w.name w.body w.place room (length out)) where
+    all-passed : verdict ≡ accepted
+    all-passed = go verdict refl
       where
-        go : (v : Verdict) → verdict ≡ v → given answer 0 out ≡ write size ws w out
-        go accepted e = absurd (z (number_in accepted e))
-        go (refusal k x) e =
-            ap (λ (t : Told). record { told = t; length = 0; output = out }) (et ∙ ap (λ (v : Verdict). (settle v [] []).told) e)
-            ∙ ap (λ (v : Verdict). settle v (file size (ws ++ (w ∷ []))) out) {x = refusal k x} (sym (same_first ∙ e))
+        rows : List Check
+        rows = write_checks size n w.name w.body w.place room (length out)
 
-    module _ (z : r ≡ 0) where
-      all-passed : verdict ≡ accepted
-      all-passed = go verdict refl
-        where
-          rows : List Check
-          rows = write_checks size n w.name w.body w.place room (length out)
+        go : (v : Verdict) → verdict ≡ v → verdict ≡ accepted
+        go accepted e = e
+        go (refusal k x) e = absurd (without 0 rows (others 0 rows refl) k x e (sym (ap (λ (t : Told). t.number) (tells (refusal k x) t e))))
 
-          go : (v : Verdict) → verdict ≡ v → verdict ≡ accepted
-          go accepted e = e
-          go (refusal k x) e = absurd (without 0 rows (others 0 rows refl) k x e (sym (number_in (refusal k x) e) ∙ z))
+    -- what the store asks
+    pub fits : (n ≤ 15) × (length w.name ≤ 32) × (room ≤ length out)
+    fits =
+        let p = passed (write_checks size n w.name w.body w.place room (length out)) all-passed in
+        let five = neither (not (valid_name w.name)) (leb size w.place) p.1.1.1.0 in
+        let six = neither (leb 16 n) (ltb (length out) room) p.1.1.1.1.0 in
+        let few : n < 16 = leb-false 16 n six.0 in
+        (omega arith, (valid-name w.name (not-false _ five.0)).0, ltb-false (length out) room six.1)
 
-      -- what the store asks
-      pub fits : (n ≤ 15) × (length w.name ≤ 32) × (room ≤ length out)
-      fits =
-          let p = passed (write_checks size n w.name w.body w.place room (length out)) all-passed in
-          let five = neither (not (valid_name w.name)) (leb size w.place) p.1.1.1.0 in
-          let six = neither (leb 16 n) (ltb (length out) room) p.1.1.1.1.0 in
-          let few : n < 16 = leb-false 16 n six.0 in
-          (omega arith, (valid-name w.name (not-false _ five.0)).0, ltb-false (length out) room six.1)
-
-      pub written : {t : ℕ} {after : List ℕ} → t ≡ room → after ≡ sets out 0 (file size (ws ++ (w ∷ []))) → given Done t after ≡ write size ws w out
-      unfolding write
-      written d s =
-          let made : List ℕ = file size (ws ++ (w ∷ [])) in
-          let p = passed (write_checks size n w.name w.body w.place room (length out)) all-passed in
-          let five = neither (not (valid_name w.name)) (leb size w.place) p.1.1.1.0 in
-          let h : length made ≡ room = how-long (not-false _ five.0) in
-          let l = fits.2 in
-          ap₂ (λ (k : ℕ) (o : List ℕ). given Done k o) (d ∙ sym h) (s ∙ stored out made (omega arith))
-          ∙ ap (λ (x : Verdict). settle x made out) {x = accepted} (sym (same_first ∙ all-passed))
+    pub written : {t : ℕ} {after : List ℕ} → t ≡ room → after ≡ sets out 0 (file size (ws ++ (w ∷ []))) → given (Ok t) after ≡ write size ws w out
+    unfolding write
+    written d s =
+        let made : List ℕ = file size (ws ++ (w ∷ [])) in
+        let p = passed (write_checks size n w.name w.body w.place room (length out)) all-passed in
+        let five = neither (not (valid_name w.name)) (leb size w.place) p.1.1.1.0 in
+        let h : length made ≡ room = how-long (not-false _ five.0) in
+        let l = fits.2 in
+        ap₂ (λ (k : ℕ) (o : List ℕ). given (Ok k) o) (d ∙ sym h) (s ∙ stored out made (omega arith))
+        ∙ ap (λ (x : Verdict). settle x made out) {x = accepted} (sym (same_first ∙ all-passed))

@@ -1,8 +1,7 @@
 -- A match file written (01, 'Match file').
 -- Believed. Assumes nothing.
-use Rattle.std.specs.Prelude.{ℕ, ◌<◌, ◌≡◌, List, [], ◌∷◌, ◌++◌, length}
+use Rattle.std.specs.Prelude.{ℕ, None, ◌<◌, ◌≡◌, List, [], ◌∷◌, ◌++◌, length}
 use Rattle.machine.specs.State.{Check, first}
-use Rattle.match_format.specs.declared.Fault.TheVariants.{Nowhere}
 use Rattle.match_format.specs.Format.{Warrior, file}
 use Rattle.match_format.specs.Faults.{lines_fault, fault, fault_at}
 use Rattle.match_file.specs.Reading.{size_in, warriors_of}
@@ -27,5 +26,5 @@ write_added f w output =
 
 -- n lines of a file that read, with bodies from a position to its end; none before the first warrior
 pub record Earlier (f : List ℕ) (n start : ℕ) : Type 0 where
-  pub lines : lines_fault f 4 start n ≡ Nowhere
-  pub numbers : (i : ℕ) → i < n → fault_at f i ≡ Nowhere
+  pub lines : lines_fault f 4 start n ≡ None
+  pub numbers : (i : ℕ) → i < n → fault_at f i ≡ None

@@ -1,26 +1,42 @@
 -- Laws of the refusal: what is told at each test.
 -- Assumes nothing.
-use mathlib.Core.Path.{◌≡◌, sym, ap, ◌∙◌}
-use mathlib.Core.Bool.{Bool, true, false, ◌&&◌, ◌||◌}
-use mathlib.Core.List.{List}
+use mathlib.Core.Path.{◌≡◌, refl, sym, ap, ◌∙◌}
+use mathlib.Core.Bool.{Bool, true, false, not, ◌&&◌, ◌||◌}
+use mathlib.Core.List.{List, [], ◌∷◌}
 use Prim.Native.Nat.{ℕ, ◌≤◌, ◌<◌}
 use lib.Dec.{eqb, leb, ltb}
-use lib.ListN.{length, get_or}
+use lib.ListN.{length, get_or, drop}
 use borrow.Author.Tests.{eq-eqb, ne_eqb, leb-true}
 use Rattle.laws.proofs.Tests.{both, and_assoc}
 use Rattle.answer.specs.Numbers.{Told, gives}
 use Rattle.cell.specs.Cells.{sound_word}
 use Rattle.machine.specs.declared.Rules.{Rules}
-use Rattle.machine.specs.State.{Machine, passes, first, verdict_told}
+use Rattle.machine.specs.State.{Machine, Check, check, accepted, refusal, passes, first, verdict_told}
 use Rattle.machine.specs.Queue.{front}
 use Rattle.machine.specs.Soundness.{valid_limits, fresh_checks, sound_front}
 use Rattle.machine.specs.Pointers.{site_at}
 use Rattle.machine.specs.Instruction.{fetched}
-use Rattle.machine.specs.Step.{popped, pc, site}
+use Rattle.machine.specs.Step.{popped, pc, site, next_checks}
 use Rattle.machine.proofs.Soundness.{is-taken, taken-tests, sound-entry}
 use Rattle.address.proofs.Evaluation.{over-private}
 use Rattle.refusal.specs.Inner.Looking.{cell_checks}
+use Rattle.refusal.specs.Inner.Fronts.{bounded, front_checks}
 use Rattle.refusal.specs.Checks.{in_bounds, refused}
+
+-- three rows before others
+front-refuses : (a b c : Bool) (rest : List Check) {n v : ℕ} → first (check a 7 ∷ check b 9 ∷ check c 8 ∷ []) ≡ refusal n v
+    → first (check a 7 ∷ check b 9 ∷ check c 8 ∷ rest) ≡ refusal n v
+front-refuses true b c rest e = e
+front-refuses false true c rest e = e
+front-refuses false false true rest e = e
+front-refuses false false false rest e = cc
+
+front-accepts : (a b c : Bool) (rest : List Check) → first (check a 7 ∷ check b 9 ∷ check c 8 ∷ []) ≡ accepted
+    → first (check a 7 ∷ check b 9 ∷ check c 8 ∷ rest) ≡ first rest
+front-accepts true b c rest e = cc
+front-accepts false true c rest e = cc
+front-accepts false false true rest e = cc
+front-accepts false false false rest e = refl
 
 -- the instruction at a place
 module _ (rules : Rules) (core : List ℕ) (pc : ℕ) where
@@ -34,14 +50,18 @@ module _ (rules : Rules) (core : List ℕ) (pc : ℕ) where
     pub private-cell : 16 < (fetched core pc).opcode → gives 10 0 ≡ there
     private-cell h = let p = over-private size core pc s h in simp (s, p)
 
-module _ (m : Machine) where
-  -- the first test, number by number, told whether the limits are valid
-  pub in-bounds-tests : {limits : Bool} → limits ≡ valid_limits m.header.rules
-      → (leb 1 m.header.rules.size && leb m.header.rules.size 46341 && eqb m.header.rules.size (length m.core) && leb 1 (length m.queue) && leb (length m.queue) 65535
-      && limits && ltb m.header.ring.head (length m.queue)) ≡ in_bounds m
-  in-bounds-tests e =
-      rw e (sym (ap (λ (b : Bool). b && ltb m.header.ring.head (length m.queue)) (taken-tests m.header.rules m.core m.queue) ∙ simp and_assoc))
+-- the first test, number by number, told whether the limits are valid
+pub in-bounds-tests : (core queue : List ℕ) (rules : Rules) (head : ℕ) {limits : Bool} → limits ≡ valid_limits rules
+    → (leb 1 rules.size && leb rules.size 46341 && eqb rules.size (length core) && leb 1 (length queue) && leb (length queue) 65535 && limits && ltb head (length queue))
+    ≡ bounded core queue rules head
+in-bounds-tests core queue rules head e =
+    rw e (sym (ap (λ (b : Bool). b && ltb head (length queue)) (taken-tests rules core queue) ∙ simp and_assoc))
 
+-- the steps taken, or the name's next thread number, have come to their end
+abbrev worn : Machine → Bool
+worn m = eqb m.header.steps 4294967295 || eqb (get_or m.header.threads (popped m).name 0) 4294967295
+
+module _ (m : Machine) where
   pub out-of-bounds : in_bounds m ≡ false → gives 9 0 ≡ refused m
   unfolding refused
   out-of-bounds e = simp e
@@ -59,29 +79,43 @@ module _ (m : Machine) where
     pub limits : valid_limits m.header.rules ≡ true
     limits = (is-taken m.header.rules m.core m.queue taken).limits
 
-    pub empty : m.header.ring.length ≡ 0 → gives 7 0 ≡ refused m
+    -- the rows of a step after the front entry's
+    abbrev later : List Check
+    later = drop 3 (next_checks m)
+
+    abbrev none-queued : Bool
+    none-queued = eqb m.header.ring.length 0
+
+    -- a row of the front entry's applies
+    pub by-front : {n v : ℕ} → first (front_checks m) ≡ refusal n v → gives n v ≡ refused m
     unfolding refused
-    empty e = let z = eq-eqb m.header.ring.length 0 e in simp (w, z)
+    by-front {n} {v} e =
+        let k : first (next_checks m) ≡ refusal n v = front-refuses none-queued (not (sound_front m)) (worn m) later e in
+        sym (simp w (ap verdict_told k))
 
-    module _ (some : m.header.ring.length ≡ 0 → ⊥) where
-      not-empty : eqb m.header.ring.length 0 ≡ false
-      not-empty = ne_eqb _ _ some
+    -- none does
+    pub by-cell : first (front_checks m) ≡ accepted → {t : Told} → t ≡ verdict_told (first (cell_checks (site m) m.core)) → t ≡ refused m
+    unfolding refused
+    by-cell e h =
+        let k : first (next_checks m) ≡ first later = front-accepts none-queued (not (sound_front m)) (worn m) later e in
+        h ∙ sym (simp w (ap verdict_told k))
 
-      pub unsound-front : sound_front m ≡ false → gives 9 0 ≡ refused m
-      unfolding refused
-      unsound-front e = let z = not-empty in simp (w, z, e)
+  pub place-below : sound_front m ≡ true → pc m < m.header.rules.size
+  place-below s = (sound-entry m.header (front m) s).place
 
-      module _ (s : sound_front m ≡ true) where
-        pub place-below : pc m < m.header.rules.size
-        place-below = (sound-entry m.header (front m) s).place
+  pub empty : m.header.ring.length ≡ 0 → first (front_checks m) ≡ refusal 7 0
+  empty e = let z = eq-eqb m.header.ring.length 0 e in simp z
 
-        abbrev ended : Bool
-        ended = eqb m.header.steps 4294967295 || eqb (get_or m.header.threads (popped m).name 0) 4294967295
+  module _ (some : m.header.ring.length ≡ 0 → ⊥) where
+    not-empty : eqb m.header.ring.length 0 ≡ false
+    not-empty = ne_eqb _ _ some
 
-        pub numbers-end : ended ≡ true → gives 8 0 ≡ refused m
-        unfolding refused
-        numbers-end e = let z = not-empty in simp (w, z, s, e)
+    pub unsound-front : sound_front m ≡ false → first (front_checks m) ≡ refusal 9 0
+    unsound-front e = let z = not-empty in simp (z, e)
 
-        pub by-cell : ended ≡ false → {t : Told} → t ≡ verdict_told (first (cell_checks (site m) m.core)) → t ≡ refused m
-        unfolding refused
-        by-cell n e = let z = not-empty in e ∙ simp (w, z, s, n)
+    module _ (s : sound_front m ≡ true) where
+      pub numbers-end : worn m ≡ true → first (front_checks m) ≡ refusal 8 0
+      numbers-end e = let z = not-empty in simp (z, s, e)
+
+      pub fronted : worn m ≡ false → first (front_checks m) ≡ accepted
+      fronted e = let z = not-empty in simp (z, s, e)

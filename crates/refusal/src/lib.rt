@@ -1,7 +1,7 @@
 // The refusal of the next step, found from the lent parts of a record before anything changes (01, 'One step').
 #![tactic(auto)]
 
-ghost use Rattle.std.specs.Prelude.{◌≡◌, true, ◌||◌, ◌<◌, ◌≤◌, eqb, length, get_or};
+ghost use Rattle.std.specs.Prelude.{◌≡◌, true, [], ◌<◌, ◌≤◌, length};
 ghost use Rattle.answer.specs.Numbers.{told};
 ghost use Rattle.cell.specs.Cells.{sound_word};
 ghost use Rattle.machine.specs.State.{first, verdict_told};
@@ -10,15 +10,16 @@ ghost use Rattle.machine.specs.Pointers.{site_at};
 ghost use Rattle.lent.specs.Parts.{unnamed};
 ghost use Rattle.address.specs.Inner.Operands.{Fetched};
 ghost use Rattle.refusal.specs.Inner.Looking.{sound_both, left, sound_seen_at, former_sound, cell_checks};
+ghost use Rattle.refusal.specs.Inner.Fronts.{bounded, Fronted};
 ghost use Rattle.refusal.specs.Checks.{refused};
 
 use address::{aim, decrement, field_of, increment, word_at};
-use answer::Answer;
+use answer::{Answer, Error};
 use cell::sound;
 use entry::unpack;
 use fold::{unlimited, valid_limits};
 use machine::limits::{LARGEST_CORE, LAST_NUMBER, MOST_ENTRIES};
-use machine::{Ring, Rules};
+use machine::{Entry, Processes, Ring, Rules};
 use offset::{Absolute, add};
 use soundness::sound_front;
 use types::field::{A, B};
@@ -100,70 +101,66 @@ fn cell_refusal(core: &[u64], rules: Rules, pc: Absolute) -> Answer
     requires { (rules.size ≤ 46341) × (length core.now ≡ rules.size) × (pc.0 < rules.size) × (valid_limits rules ≡ true) }
     ensures { told result ≡ verdict_told (first (cell_checks (site_at rules pc.0) core.now)) }
 {
-    let at = pc.0 as usize;
-    let here = core[at];
+    let here = core[pc.0 as usize];
     if !sound(here, rules.size) {
-        return Answer::UnsoundRecord;
+        return Err(Error::UnsoundRecord);
     }
-    let op = opcode(here);
-    if op > NOP {
-        return Answer::PrivateMemory;
+    if opcode(here) > NOP {
+        return Err(Error::PrivateMemory);
     }
     if !readable(core, rules, pc, here) {
-        return Answer::UnsoundRecord;
+        return Err(Error::UnsoundRecord);
     }
-    Answer::Done
+    Ok(())
 }
 
-// Whether the steps taken, or the next thread number of a name, have come to their end.
-fn exhausted(threads: &[u32; 16], taken: u32, name: u8) -> bool
-    requires { name < 16 }
-    ensures { result ≡ (eqb taken 4294967295 || eqb (get_or threads.now name 0) 4294967295) }
-{
-    if taken == LAST_NUMBER {
-        return true;
-    }
-    let who = name as usize;
-    let thread = threads[who];
-    thread == LAST_NUMBER
-}
-
-// The refusal of the next step, 0 for none.
-pub fn refusal<'a>(
-    core: &[u64],
-    queue: &[u64],
-    counts: &'a [u32; 16],
-    threads: &'a [u32; 16],
-    rules: Rules,
-    held: u32,
-    ring: Ring,
-    taken: u32,
-) -> Answer
-    ensures { told result ≡ refused (unnamed core.now queue.now rules ring taken held counts.now threads.now) }
+// Whether M, the limits and the memories' lengths are such as fresh takes, and the head lies in the queue memory.
+fn in_bounds(core: &[u64], queue: &[u64], rules: Rules, ring: Ring) -> bool
+    ensures { result ≡ bounded core.now queue.now rules ring.head }
 {
     let slots = queue.len();
     let limits = valid_limits(rules);
-    let in_bounds = (1 <= rules.size)
+    (1 <= rules.size)
         & (rules.size <= LARGEST_CORE)
         & (rules.size as usize == core.len())
         & (1 <= slots)
         & (slots <= MOST_ENTRIES)
         & limits
-        & ((ring.head as usize) < slots);
-    if !in_bounds {
-        return Answer::UnsoundRecord;
+        & ((ring.head as usize) < slots)
+}
+
+// The front entry, or its refusal: 7, 9, 8.
+fn front(queue: &[u64], rules: Rules, held: u32, processes: &Processes) -> Result<Entry, Error>
+    requires { processes.now.ring.head < length queue.now }
+    ensures { Fronted (unnamed [] queue.now rules held processes.now) result }
+{
+    if processes.ring.length == 0 {
+        return Err(Error::NoRemainingProcesses);
     }
-    if ring.length == 0 {
-        return Answer::NoRemainingProcesses;
-    }
-    let head = ring.head as usize;
-    let w = queue[head];
-    if !sound_front(w, rules, held, counts) {
-        return Answer::UnsoundRecord;
+    let w = queue[processes.ring.head as usize];
+    if !sound_front(w, rules, held, processes) {
+        return Err(Error::UnsoundRecord);
     }
     let e = unpack(w);
-    if exhausted(threads, taken, e.name) {
-        return Answer::NumbersExhausted;
+    if processes.steps == LAST_NUMBER || processes.threads[e.name as usize] == LAST_NUMBER {
+        return Err(Error::NumbersExhausted);
     }
+    Ok(e)
+}
+
+// The refusal of the next step, 0 for none.
+pub fn refusal(
+    core: &[u64],
+    queue: &[u64],
+    rules: Rules,
+    held: u32,
+    processes: &Processes,
+) -> Answer
+    ensures { told result ≡ refused (unnamed core.now queue.now rules held processes.now) }
+{
+    if !in_bounds(core, queue, rules, processes.ring) {
+        return Err(Error::UnsoundRecord);
+    }
+    let e = front(queue, rules, held, processes)?;
     cell_refusal(core, rules, e.place)
 }

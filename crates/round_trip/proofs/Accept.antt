@@ -9,6 +9,7 @@ use native.Mathlib.Omega.{arith}
 use lib.Dec.{leb, ltb}
 use lib.ListN.{length, get_or}
 use borrow.Author.Tests.{leb-true, leb-false, ltb-false, le-leb, lt-leb, le-ltb, not-false}
+use Rattle.std.specs.Prelude.{None}
 use Rattle.answer.specs.Numbers.{Told, gives}
 use Rattle.laws.proofs.Tests.{both, neither}
 use Rattle.encoding.specs.Bytes.{part}
@@ -18,7 +19,6 @@ use Rattle.program.proofs.Program.{lawful-whole}
 use Rattle.machine.specs.State.{Check, Verdict, accepted, refusal, first}
 use Rattle.machine.specs.Soundness.{valid_size}
 use Rattle.machine.proofs.Checks.{passed as rows-passed, Numbers, number_of}
-use Rattle.match_format.specs.declared.Fault.TheVariants.{Nowhere}
 use Rattle.match_format.specs.Format.{Bytes, number, Warrior, file, Fits, AllFit}
 use Rattle.match_format.specs.Faults.{lines_fault}
 use Rattle.match_file.specs.Reading.{warriors_at}
@@ -102,7 +102,7 @@ fits-passed size w k o =
     }
 
 -- the warriors of a file that reads fit a file
-pub fits_read : (f : List ℕ) (p s n : ℕ) → Bytes f → lines_fault f p s n ≡ Nowhere → AllFit (warriors_at f p n)
+pub fits_read : (f : List ℕ) (p s n : ℕ) → Bytes f → lines_fault f p s n ≡ None → AllFit (warriors_at f p n)
 fits_read f p s zero b e = tt
 fits_read f p s (suc n) b e =
     let o = first-line f p s n e in

@@ -7,8 +7,8 @@ use native.Mathlib.Nat.{add-zero}
 use native.Mathlib.Omega.{arith}
 use lib.ListN.{length, get_or, drop, replicate, take-append-drop}
 use lib.Seq.{drop-drop, drop-cons}
+use Rattle.std.specs.Prelude.{None}
 use Rattle.encoding.specs.Bytes.{part, spelled}
-use Rattle.match_format.specs.declared.Fault.TheVariants.{Nowhere}
 use Rattle.match_format.specs.Format.{Bytes, number, line, lines, bodies, file}
 use Rattle.match_format.specs.Faults.{within, lines_fault, fault}
 use Rattle.match_file.specs.Reading.{size_in, warriors_at, warriors_of}
@@ -53,7 +53,7 @@ module _ (f : List ℕ) (b : Bytes f) where
       ap₂ (λ (x : ℕ) (y : List ℕ). x ∷ y) name (from-name ∙ ap (part f (p + 1)) e) ∙ sym (part-first f p 42 (omega arith))
 
   -- the lines
-  lines-again : (p s n : ℕ) → lines_fault f p s n ≡ Nowhere → lines s (warriors_at f p n) ≡ part f p (43 * n)
+  lines-again : (p s n : ℕ) → lines_fault f p s n ≡ None → lines s (warriors_at f p n) ≡ part f p (43 * n)
   lines-again p s zero e = refl
   lines-again p s (suc n) e =
       let o = first-line f p s n e in
@@ -67,7 +67,7 @@ module _ (f : List ℕ) (b : Bytes f) where
       ∙ sym (part-add f p 43 (43 * n))
       ∙ ap (λ (x : ℕ). part f p x) z
 
-  pub again : fault f ≡ Nowhere → file (size_in f) (warriors_of f) ≡ f
+  pub again : fault f ≡ None → file (size_in f) (warriors_of f) ≡ f
   unfolding file
   again e =
       let h = head_ok f e in

@@ -7,19 +7,19 @@ use native.Mathlib.Nat.{add-zero}
 use native.Mathlib.Omega.{arith}
 use lib.ListN.{length, get_or, take, drop, replicate, length-append, length-replicate, length-drop}
 use lib.Seq.{drop-drop, get_or-drop, take_at, drop_at, drop-append-add}
+use borrow.Author.Tests.{le-leb}
+use Rattle.std.specs.Prelude.{Option, None}
 use Rattle.encoding.specs.Bytes.{part, value, spelled}
 use Rattle.program.specs.Program.{instructions}
 use Rattle.metadata.specs.Metadata.{valid_byte}
 use Rattle.metadata.proofs.Names.{valid-name}
-use Rattle.match_format.specs.declared.Fault.{Fault}
-use Rattle.match_format.specs.declared.Fault.TheVariants.{Nowhere}
 use Rattle.match_format.specs.Format.{number, Warrior, line, lines, bodies, file, Fits, AllFit}
 use Rattle.match_format.specs.Faults.{◌else◌, within, lines_fault, fault}
 use Rattle.match_file.specs.Reading.{size_in, warrior_at, warriors_at, warriors_of}
 use Rattle.match_format.proofs.Parts.{part-from, part-past}
 use Rattle.match_format.proofs.Numbers.{value-spelled}
 use Rattle.match_format.proofs.Chains.{right-all, zero-all}
-use Rattle.match_format.proofs.Lines.{LineOk, ok-line, lines_more, good-head, good-end}
+use Rattle.match_format.proofs.Lines.{LineOk, ok-line, lines_none, lines_more, good-head}
 use Rattle.match_format.proofs.Format.{Short, line_of, length-line, length-lines}
 
 pub all_short : (ws : List Warrior) → AllFit ws → Short ws
@@ -124,10 +124,10 @@ module _ (f : List ℕ) (p s : ℕ) (w : Warrior) (r : List ℕ) (t : Fits w) (b
 -- the lines, one after the other
 module _ (f : List ℕ) where
   lines-back : (p s : ℕ) (ws : List Warrior) (r : List ℕ) → AllFit ws → drop p f ≡ lines s ws ++ r → drop s f ≡ bodies ws → s ≤ length f → s + 786420 * length ws < 2 ^ 32
-      → (lines_fault f p s (length ws) ≡ Nowhere) × (warriors_at f p (length ws) ≡ ws)
+      → (lines_fault f p s (length ws) ≡ None) × (warriors_at f p (length ws) ≡ ws)
   lines-back p s [] r t e d h b =
       let z : length f - s ≡ 0 = sym (length-drop s f) ∙ ap length d in
-      (good-end f p s 0 0 (omega arith) h (omega arith), refl)
+      (lines_none f p s ∙ simp (le-leb s (length f) h, le-leb (length f) s (omega arith)), refl)
   lines-back p s (w ∷ ws) r t e d h b =
       let l : List ℕ = line_of w s in
       let m : ℕ = s + length w.body in
@@ -141,14 +141,14 @@ module _ (f : List ℕ) where
       let c : length w.body ≤ 786420 = omega (arith, t.0.body, t.0.count) in
       let u = lines-back (p + 43) m ws r t.1 e2 d2 (omega arith) (omega arith) in (
         lines_more f p s (length ws)
-            ∙ ap₂ (λ (y : Fault) (n : ℕ). y else lines_fault f (p + 43) n (length ws)) (ok-line f p s (line-back f p s w x t.0 (omega arith) e1)) k
+            ∙ ap₂ (λ (y : Option ℕ) (n : ℕ). y else lines_fault f (p + 43) n (length ws)) (ok-line f p s (line-back f p s w x t.0 (omega arith) e1)) k
             ∙ u.0,
         ap₂ (λ (y : Warrior) (ys : List Warrior). y ∷ ys) (warrior-back f p s w x t.0 (omega arith) e1 (bodies ws) d) u.1,
       )
 
 -- f reads as M and these warriors
 pub record As (f : List ℕ) (m : ℕ) (ws : List Warrior) : Type 0 where
-  pub sound : fault f ≡ Nowhere
+  pub sound : fault f ≡ None
   pub size : size_in f ≡ m
   pub warriors : warriors_of f ≡ ws
 
@@ -166,7 +166,7 @@ module _ (size : ℕ) (ws : List Warrior) (a : size < 65536) (low : 1 ≤ length
       let g : suc (suc (suc (suc (length (ls ++ bodies ws))))) ≡ s + length (bodies ws) = omega arith in
       let u = lines-back f 4 s ws (bodies ws) t refl d (omega arith) (omega arith) in
       record {
-        sound = good-head f (omega arith) low high (omega arith) refl ∙ u.0;
+        sound = good-head f low high (omega arith) refl ∙ u.0;
         size = value-spelled 2 size a;
         warriors = u.1;
       }

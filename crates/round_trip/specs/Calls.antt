@@ -1,9 +1,8 @@
 -- Calls of the writer, one after the other, and what the reader's calls give of a file.
 -- Believed. Assumes nothing.
-use Rattle.std.specs.Prelude.{ℕ, suc, ◌<◌, ◌≡◌, List, [], ◌∷◌, length, get_or, take}
+use Rattle.std.specs.Prelude.{ℕ, None, suc, ◌<◌, ◌≡◌, List, [], ◌∷◌, length, get_or, take}
 use Rattle.answer.specs.Numbers.{gives}
 use Rattle.program.specs.Program.{instructions}
-use Rattle.match_format.specs.declared.Fault.TheVariants.{Nowhere}
 use Rattle.match_format.specs.Format.{Warrior, warrior}
 use Rattle.match_format.specs.Faults.{fault, fault_at}
 use Rattle.match_file.specs.Reading.{warriors_in, size_in, count_of, warrior_of}
@@ -42,9 +41,9 @@ nobody = warrior [] [] 0 0
 
 -- every call of the reader gives what was written: how many warriors, M, and of each warrior name, body, origin, place and count
 pub record Reads (f : List ℕ) (size : ℕ) (ws : List Warrior) : Type 0 where
-  pub sound : fault f ≡ Nowhere
+  pub sound : fault f ≡ None
   pub warriors : warriors_in f ≡ length ws
   pub core : size_in f ≡ size
-  pub line : (k : ℕ) → k < length ws → fault_at f k ≡ Nowhere
+  pub line : (k : ℕ) → k < length ws → fault_at f k ≡ None
   pub warrior : (k : ℕ) → k < length ws → warrior_of f k ≡ get_or ws k nobody
   pub count : (k : ℕ) → k < length ws → count_of f k ≡ instructions (get_or ws k nobody).body

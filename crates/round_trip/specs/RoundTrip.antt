@@ -1,7 +1,6 @@
 -- The round trip of match files (01, 'Match file'): what is claimed. The proofs are in proofs/RoundTrip.antt.
 -- Believed. Assumes nothing.
-use Rattle.std.specs.Prelude.{ℕ, ◌≤◌, ◌<◌, ◌≡◌, List, [], ◌∷◌, ◌++◌, length}
-use Rattle.match_format.specs.declared.Fault.TheVariants.{Nowhere}
+use Rattle.std.specs.Prelude.{ℕ, ◌≤◌, ◌<◌, ◌≡◌, None, List, [], ◌∷◌, ◌++◌, length}
 use Rattle.match_format.specs.Format.{Bytes, Warrior, file, AllFit, IsFile}
 use Rattle.match_format.specs.Faults.{fault}
 use Rattle.match_file.specs.Reading.{size_in, warriors_of}
@@ -10,7 +9,7 @@ use Rattle.round_trip.specs.Calls.{made, Done, AllAccepted, write_all, Reads}
 
 -- the reader accepts exactly the files of the format
 abbrev pub Exact : Type 0
-Exact = (f : List ℕ) → Bytes f → (fault f ≡ Nowhere → IsFile f) × (IsFile f → fault f ≡ Nowhere)
+Exact = (f : List ℕ) → Bytes f → (fault f ≡ None → IsFile f) × (IsFile f → fault f ≡ None)
 
 -- the file of M and of 1 to 16 warriors that fit it reads back as they are
 abbrev pub ReadsBack : Type 0
@@ -18,7 +17,7 @@ ReadsBack = (size : ℕ) (ws : List Warrior) → size < 65536 → 1 ≤ length w
 
 -- a file that reads is the file of what it reads as, byte for byte
 abbrev pub WritesAgain : Type 0
-WritesAgain = (f : List ℕ) → Bytes f → fault f ≡ Nowhere → file (size_in f) (warriors_of f) ≡ f
+WritesAgain = (f : List ℕ) → Bytes f → fault f ≡ None → file (size_in f) (warriors_of f) ≡ f
 
 -- what a call made from M and one warrior reads back; an origin has 16 bits
 abbrev pub FirstReads : Type 0
@@ -32,5 +31,5 @@ AddedReads = (f : List ℕ) (w : Warrior) (output : List ℕ) → Bytes f → w.
 
 -- a file whose M and warriors the writer accepts, written again warrior by warrior into outputs that are long enough, is the same bytes
 abbrev pub WritesBack : Type 0
-WritesBack = (f : List ℕ) (outputs : ℕ → List ℕ) → Bytes f → fault f ≡ Nowhere → AllAccepted (size_in f) (warriors_of f)
+WritesBack = (f : List ℕ) (outputs : ℕ → List ℕ) → Bytes f → fault f ≡ None → AllAccepted (size_in f) (warriors_of f)
     → ((i : ℕ) → length f ≤ length (outputs i)) → write_all outputs (size_in f) (warriors_of f) ≡ f

@@ -8,12 +8,12 @@ use lib.Dec.{eqb}
 use lib.ListN.{get_or}
 use Rattle.laws.specs.Lists.{every, tally, table}
 use Rattle.laws.proofs.Tests.{and-false}
-use Rattle.machine.specs.declared.Ring.{Ring}
+use Rattle.machine.specs.declared.Processes.{Processes}
 use Rattle.machine.specs.declared.Rules.{Rules}
 use Rattle.machine.specs.State.{Machine}
 use Rattle.machine.specs.Queue.{slots, entries}
 use Rattle.machine.specs.Soundness.{sound_entry}
-use Rattle.lent.specs.Parts.{names_of, header_of, no_ring, unnamed}
+use Rattle.lent.specs.Parts.{names_of, header_of, unnamed}
 use Rattle.scan.proofs.Rounds.{named}
 use Rattle.scan.specs.Scanning.{in_range, sound_cells, sound_entries, entries_at, tallied, lasting, lasting_all, scanned}
 
@@ -23,35 +23,35 @@ pub counts-tallied : (m : Machine) (t : List ℕ) → ((k : ℕ) → get_or t k 
 counts-tallied m t e =
     ap (λ (f : ℕ → ℕ). every (λ i. eqb (get_or m.header.counts i 0) (f i)) (table (λ i. i) 0 m.header.names.held)) (λ i k. e k i)
 
--- the entries are those of the queue and the ring, whatever else the record has
-pub by_parts : (core queue : List ℕ) (rules : Rules) (ring : Ring) (steps held : ℕ) (counts threads : List ℕ)
-    → (sound_entries (unnamed [] queue rules ring 0 held counts []) && tallied (unnamed [] queue rules ring 0 held counts []))
-    ≡ (sound_entries (unnamed core queue rules ring steps held counts threads) && tallied (unnamed core queue rules ring steps held counts threads))
+-- the entries are those of the queue and the processes, whatever the core
+pub by_parts : (core queue : List ℕ) (rules : Rules) (held : ℕ) (p : Processes)
+    → (sound_entries (unnamed [] queue rules held p) && tallied (unnamed [] queue rules held p))
+    ≡ (sound_entries (unnamed core queue rules held p) && tallied (unnamed core queue rules held p))
 unfolding entries sound_entry
-by_parts core queue rules ring steps held counts threads = refl
+by_parts core queue rules held p = refl
 
 -- a queue alone, looked through slot by slot
-module _ (queue : List ℕ) (rules : Rules) (ring : Ring) (held : ℕ) (counts : List ℕ) where
+module _ (queue : List ℕ) (rules : Rules) (held : ℕ) (p : Processes) where
   abbrev lone : Machine
-  lone = unnamed [] queue rules ring 0 held counts []
+  lone = unnamed [] queue rules held p
 
   abbrev pub test : ℕ → Bool
-  test = sound_entry (header_of rules no_ring (names_of held [] []) counts [])
+  test = sound_entry (header_of rules (names_of held [] []) p)
 
-  tests-are : every test (slots queue ring.head ring.length) ≡ sound_entries lone
+  tests-are : every test (slots queue p.ring.head p.ring.length) ≡ sound_entries lone
   unfolding entries sound_entry
   tests-are = refl
 
-  tallies-are : (k : ℕ) → tally (named k) (slots queue ring.head ring.length) ≡ entries_at lone k
+  tallies-are : (k : ℕ) → tally (named k) (slots queue p.ring.head p.ring.length) ≡ entries_at lone k
   unfolding entries
   tallies-are k = refl
 
-  pub unsound-entry : every test (slots queue ring.head ring.length) ≡ false → false ≡ (sound_entries lone && tallied lone)
+  pub unsound-entry : every test (slots queue p.ring.head p.ring.length) ≡ false → false ≡ (sound_entries lone && tallied lone)
   unsound-entry e = sym (ap (λ (b : Bool). b && tallied lone) (sym tests-are ∙ e))
 
-  pub by-counts : every test (slots queue ring.head ring.length) ≡ true → (t : List ℕ)
-      → ((k : ℕ) → get_or t k 0 ≡ tally (named k) (slots queue ring.head ring.length))
-      → {r : Bool} → r ≡ every (λ i. eqb (get_or counts i 0) (get_or t i 0)) (table (λ i. i) 0 held) → r ≡ (sound_entries lone && tallied lone)
+  pub by-counts : every test (slots queue p.ring.head p.ring.length) ≡ true → (t : List ℕ)
+      → ((k : ℕ) → get_or t k 0 ≡ tally (named k) (slots queue p.ring.head p.ring.length))
+      → {r : Bool} → r ≡ every (λ i. eqb (get_or p.counts i 0) (get_or t i 0)) (table (λ i. i) 0 held) → r ≡ (sound_entries lone && tallied lone)
   by-counts e t f g =
       g ∙ counts-tallied lone t (λ k. f k ∙ tallies-are k) ∙ sym (ap (λ (b : Bool). b && tallied lone) (sym tests-are ∙ e))
 

@@ -10,8 +10,8 @@ ghost use Rattle.scan.specs.Scanning.{sound_entries, tallied, lasting, scanned};
 use cell::sound;
 use entry::unpack;
 use machine::limits::{LAST_NUMBER, MOST_ENTRIES};
-use machine::{Ring, Rules};
-use queue::slot_ahead;
+use machine::{Processes, Rules};
+use offset::ahead;
 use soundness::sound_front;
 
 // Whether every cell is sound. A cell like the one before it needs no second look.
@@ -78,57 +78,52 @@ fn counts_are<'a>(counts: &'a [u32; 16], tallies: &'a [u32; 16], held: usize) ->
 }
 
 // Whether every queued entry is sound, and each held name's count is the number of its entries.
-fn entries_tallied(queue: &[u64], counts: &[u32; 16], rules: Rules, held: u32, ring: Ring) -> bool
-    requires { (length queue.now ≤ 65535) × (ring.head < length queue.now) × (held ≤ 16) }
-    ensures { result ≡ (sound_entries (unnamed [] queue.now rules ring 0 held counts.now [])
-        && tallied (unnamed [] queue.now rules ring 0 held counts.now [])) }
+fn entries_tallied(queue: &[u64], rules: Rules, held: u32, processes: &Processes) -> bool
+    requires { (length queue.now ≤ 65535) × (processes.now.ring.head < length queue.now) × (held ≤ 16) }
+    ensures { result ≡ (sound_entries (unnamed [] queue.now rules held processes.now)
+        && tallied (unnamed [] queue.now rules held processes.now)) }
 {
     let slots = queue.len() as u32;
     let mut tallies: [u32; 16] = [0; 16];
-    let mut slot = ring.head;
-    let mut i: u32 = 0;
-    while i < ring.length {
+    let mut slot = processes.ring.head;
+    for _i in 0..processes.ring.length {
         let at = slot as usize;
         let w = queue[at];
-        if !sound_front(w, rules, held, counts) {
+        if !sound_front(w, rules, held, processes) {
             return false;
         }
         let e = unpack(w);
         let who = e.name as usize;
         let more = tallies[who] + 1;
         tallies[who] = more;
-        slot = slot_ahead(slot, 1, slots);
-        i += 1;
+        slot = ahead(slot, 1, slots);
     }
-    counts_are(counts, &tallies, held as usize)
+    counts_are(&processes.counts, &tallies, held as usize)
 }
 
 // Whether every cell and every queued entry is sound, each held name's count is the number of its entries, and no counter comes to its end within so many steps.
-pub fn scan<'a>(
+pub fn scan(
     core: &[u64],
     queue: &[u64],
-    counts: &'a [u32; 16],
-    threads: &'a [u32; 16],
     rules: Rules,
     held: u32,
-    ring: Ring,
-    taken: u32,
+    processes: &Processes,
     steps: u64,
 ) -> bool
-    ensures { result ≡ scanned steps (unnamed core.now queue.now rules ring taken held counts.now threads.now) }
+    ensures { result ≡ scanned steps (unnamed core.now queue.now rules held processes.now) }
 {
     let slots = queue.len();
-    let fits = (slots <= MOST_ENTRIES) & ((ring.head as usize) < slots) & (held <= 16);
+    let fits = (slots <= MOST_ENTRIES) & ((processes.ring.head as usize) < slots) & (held <= 16);
     if !fits {
         return false;
     }
-    if !lasts(taken, steps) {
+    if !lasts(processes.steps, steps) {
         return false;
     }
-    if !all_last(&threads[..], steps) {
+    if !all_last(&processes.threads[..], steps) {
         return false;
     }
-    if !entries_tallied(queue, counts, rules, held, ring) {
+    if !entries_tallied(queue, rules, held, processes) {
         return false;
     }
     cells_sound(core, rules.size)

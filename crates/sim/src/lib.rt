@@ -85,8 +85,8 @@ pub fn fresh(rules: Rules, core: &mut [u64], queue: &mut [u64]) -> Outcome
 
 // The cell at any number, reduced.
 pub fn get(core: &[u64], queue: &[u64], h: Header, number: i32) -> Result<Cell, Error>
-    ensures answer { told result ≡ gives (run.read (machine_of core.now queue.now h) number).number 0 }
-    ensures cell { IfOk result (λ c. c ≡ unpacked (run.read (machine_of core.now queue.now h) number).value) }
+    ensures { (told result ≡ gives (run.read (machine_of core.now queue.now h) number).number 0)
+        × IfOk result (λ c. c ≡ unpacked (run.read (machine_of core.now queue.now h) number).value) }
 {
     if !sound_header(core, queue, h.rules, &h.names, &processes_of(h)) {
         return Err(Error::UnsoundRecord);

@@ -11,8 +11,7 @@ use borrow.Author.Tests.{eqb-false, not-false, leb-true}
 use Rattle.laws.specs.Lists.{every}
 use Rattle.laws.proofs.Tests.{both, neither}
 use Rattle.laws.proofs.Tally.{count-le}
-use Rattle.answer.specs.Numbers.{told}
-use Rattle.answer.specs.declared.Answer.TheVariants.{PrivateMemory}
+use Rattle.answer.specs.Numbers.{gives, told}
 use Rattle.cell.specs.Cells.{sound_word}
 use Rattle.machine.specs.declared.Roster.{Roster}
 use Rattle.machine.specs.declared.Rules.{Rules}
@@ -26,7 +25,7 @@ use Rattle.machine.specs.Step as spec
 use Rattle.machine.specs.Step.{popped, pc, site, effect, step_written, counted, Queued, queued, next_told, executed, next_checks}
 use Rattle.machine.proofs.Soundness.{is-taken, SoundEntry, sound-entry}
 use Rattle.machine.proofs.Step.{nonzero}
-use Rattle.lent.specs.Parts.{parts, queue_of}
+use Rattle.steps.specs.Inner.Apart.{parts, queue_of}
 use Rattle.lent.specs.Given.{Given, given, given_by}
 use Rattle.address.specs.Inner.Operands.{Fetched, private}
 use Rattle.address.proofs.Evaluation.{over-private, few-public}
@@ -126,7 +125,7 @@ module _ (m : Machine) (ready : Ready m) (play : Playable m) where
       }
 
   -- 10: LDP and STP
-  pub private-step : 16 < (fetched m.core (pc m)).opcode → given (told PrivateMemory) 0 0 m ≡ given_by (step_of m)
+  pub private-step : 16 < (fetched m.core (pc m)).opcode → given (gives 10 0) 0 0 m ≡ given_by (step_of m)
   unfolding step_of
   private-step h =
       let t = passed in

@@ -7,17 +7,14 @@ use native.Mathlib.Nat.{add-zero, zero-add, add_assoc}
 use native.Mathlib.Omega.{arith}
 use lib.Dec.{eqb}
 use borrow.Author.Tests.{eqb-true, eqb-false}
-use Rattle.answer.specs.declared.Answer.{Answer}
-use Rattle.answer.specs.declared.Answer.TheVariants.{Done}
-use Rattle.answer.specs.Numbers.{Told, told}
+use Rattle.answer.specs.Numbers.{Answer, gives, Told, told}
 use Rattle.laws.specs.Lists.{one_if}
-use Rattle.machine.specs.declared.Ring.{Ring}
+use Rattle.machine.specs.declared.Processes.{Processes}
 use Rattle.machine.specs.State.{Machine, Outcome, told_by, joined, and_then}
 use Rattle.machine.specs.Step.{step, executed, executes}
 use Rattle.machine.proofs.Step.{step-by-cases, step_counts, step_value, step-writes-three}
 use Rattle.lent.specs.Given.{Given, given, given_by}
 use Rattle.steps.specs.declared.Ran.{Ran}
-use Rattle.steps.specs.Inner.Queueing.{ring_of}
 use Rattle.steps.specs.Inner.Ready.{Ready, step_of, plays_of, ran_of}
 use Rattle.steps.proofs.Naming.{naming, letters, ones, lettered, named, step-named, named-sound, unnamed-ready, sound-ready}
 
@@ -160,10 +157,10 @@ module _ {ceiling : ℕ} {start m : Machine} {w : ℕ} (g : Going ceiling start 
   abbrev steps : ℕ
   steps = m.header.steps - start.header.steps
 
-  pub over : ceiling ≤ m.header.steps → given (told Done) w steps m ≡ given_by (plays_of (ceiling - start.header.steps) start)
+  pub over : ceiling ≤ m.header.steps → given (gives 0 0) w steps m ≡ given_by (plays_of (ceiling - start.header.steps) start)
   unfolding plays_of
   over h =
-      ap₂ (λ (i j : ℕ). given (told Done) i j m) (sym (add-zero w)) (sym (add-zero steps))
+      ap₂ (λ (i j : ℕ). given (gives 0 0) i j m) (sym (add-zero w)) (sym (add-zero steps))
       ∙ ap (λ (k : ℕ). after w steps (plays_of k m)) (none h)
       ∙ g.same
     where
@@ -240,6 +237,11 @@ module _ {ceiling : ℕ} {start m : Machine} {w : ℕ} (g : Going ceiling start 
           }
 
 -- what a run gives back, put together with the parts that it leaves
-pub giving : (build : Ring → ℕ → Machine) (b : ℕ) {r : Ran} {answer : Answer} {w h l t : ℕ} {X : Given} → r ≡ ran_of answer w h l b t
-    → given (told answer) w (t - b) (build (ring_of h l) t) ≡ X → given (told r.answer) r.writes r.steps (build r.ring r.taken) ≡ X
-giving build b e x = ap (λ (s : Ran). given (told s.answer) s.writes s.steps (build s.ring s.taken)) e ∙ x
+pub giving : (m : Machine) (b t : ℕ) {r : Ran} {answer : Answer} {w : ℕ} {X : Given} → r ≡ ran_of answer w b t
+    → given (told answer) w (t - b) m ≡ X → given (told r.answer) r.writes r.steps m ≡ X
+giving m b t e x = ap (λ (s : Ran). given (told s.answer) s.writes s.steps m) e ∙ x
+
+-- and with the processes that are put back
+pub leaving : (build : Processes → Machine) (b t : ℕ) {r : Ran} {answer : Answer} {w : ℕ} {p q : Processes} {X : Given} → (r ≡ ran_of answer w b t) × (p ≡ q)
+    → given (told answer) w (t - b) (build q) ≡ X → given (told r.answer) r.writes r.steps (build p) ≡ X
+leaving build b t {r} {q = q} e x = ap (λ (p : Processes). given (told r.answer) r.writes r.steps (build p)) e.1 ∙ giving (build q) b t e.0 x

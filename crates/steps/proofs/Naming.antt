@@ -26,7 +26,8 @@ use Rattle.machine.proofs.Names.{Shape}
 use Rattle.machine.proofs.Soundness.{SoundHeader, is-taken, takes, tested, sound-header, header-sound}
 use Rattle.machine.proofs.Step.{step-sound}
 use Rattle.machine.proofs.Run.{run-plays}
-use Rattle.lent.specs.Parts.{names_of, parts}
+use Rattle.lent.specs.Parts.{names_of}
+use Rattle.steps.specs.Inner.Apart.{parts}
 use Rattle.steps.specs.Inner.Ready.{Ready, step_of, plays_of}
 
 -- the same machine with names, as many

@@ -1,5 +1,6 @@
 -- What an executed instruction does to a queue: the front entry popped, and the next places pushed at the tail.
 -- Assumes nothing.
+use Rattle.std.specs.Prelude.{Ok}
 use mathlib.Core.Path.{◌≡◌, refl, sym, ap, ap₂, ◌∙◌}
 use mathlib.Core.Bool.{Bool, true, false, cond}
 use mathlib.Core.List.{List}
@@ -10,9 +11,7 @@ use lib.Dec.{eqb}
 use lib.ListN.{length, get_or, set, length-set}
 use lib.Seq.{get_or-set_same, set-set, set-get_or}
 use borrow.Author.Tests.{lt-leb}
-use Rattle.answer.specs.declared.Answer.{Answer}
-use Rattle.answer.specs.declared.Answer.TheVariants.{Done}
-use Rattle.answer.specs.Numbers.{told, gives}
+use Rattle.answer.specs.Numbers.{Answer, told, gives}
 use Rattle.offset.specs.declared.Absolute.{Absolute}
 use Rattle.offset.specs.Offset.{ahead}
 use Rattle.machine.specs.declared.Entry.{Entry}
@@ -21,7 +20,7 @@ use Rattle.machine.specs.Names.{numbered}
 use Rattle.machine.specs.Queue.{packed_entry, unpacked_entry, entry, full, pop, push, started}
 use Rattle.machine.specs.Execution.{Ending, Next, ends}
 use Rattle.machine.specs.Step.{popped, pc, Queued, queued, end_told, next_told}
-use Rattle.lent.specs.Parts.{queue_of}
+use Rattle.steps.specs.Inner.Apart.{queue_of}
 use Rattle.steps.specs.declared.opcode.Executed.{Executed}
 use Rattle.steps.specs.declared.opcode.Executed.TheVariants.{Goes, Splits}
 use Rattle.steps.specs.declared.ring.Stepped.{Stepped}
@@ -115,7 +114,7 @@ module _ {queue counts threads : List ℕ} {head length' tail : ℕ} (f : Front 
 
   module _ {x : Executed} where
     pub goes_on : {next : Absolute} {wr h t : ℕ} {q : List ℕ} → x ≡ Goes next wr → h ≡ ahead (length queue) head 1 → t ≡ ahead (length queue) tail 1
-        → q ≡ moved next.0 → Requeued line x (stepped Done wr h t length') q counts threads
+        → q ≡ moved next.0 → Requeued line x (stepped (Ok tt) wr h t length') q counts threads
     goes_on {next = next} {h = h} e eh et eq =
         record {
           machine = pushed next.0 eh eq ∙ ap (λ (y : Executed). (queued (next_of y) (popped line) (pop line)).machine) (sym e);
@@ -127,7 +126,7 @@ module _ {queue counts threads : List ℕ} {head length' tail : ℕ} (f : Front 
     pub splits-on : {next child : Absolute} {wr h t l : ℕ} {e : Entry} {q q₂ c₂ t₂ : List ℕ} → x ≡ Splits next child wr → h ≡ ahead (length queue) head 1 → e ≡ popped line
         → q ≡ moved next.0
         → (queue_of q₂ (ring_of h l) c₂ t₂ ≡ grown q counts threads h length' child.0 e.name) × (t ≡ ahead (length q) h l)
-        → length q₂ ≡ length q → Requeued line x (stepped Done wr h t l) q₂ c₂ t₂
+        → length q₂ ≡ length q → Requeued line x (stepped (Ok tt) wr h t l) q₂ c₂ t₂
     splits-on {next = next} {child = child} {h = h} {l = l} ex eh ee eq g el =
         record {
           machine = g.0 ∙ (λ j. cond (full (pushed next.0 eh eq j) (ee j).name) (pushed next.0 eh eq j) (started child.0 (ee j).name (pushed next.0 eh eq j)))

@@ -8,13 +8,12 @@ use native.Mathlib.Omega.{arith}
 use lib.Dec.{eqb}
 use borrow.Author.Tests.{eqb-true}
 use lib.ListN.{length, get_or}
-use Rattle.answer.specs.Numbers.{Told, told}
-use Rattle.answer.specs.declared.Answer.TheVariants.{PrivateMemory}
+use Rattle.answer.specs.Numbers.{gives, Told}
 use Rattle.cell.specs.Cells.{unpacked}
 use Rattle.cell.proofs.Soundness.{sound-fields}
 use Rattle.machine.specs.State.{Machine}
 use Rattle.machine.specs.Step.{pc, executed}
-use Rattle.lent.specs.Parts.{queue_of}
+use Rattle.steps.specs.Inner.Apart.{queue_of}
 use Rattle.lent.specs.Given.{Given, given, given_by}
 use Rattle.steps.specs.Inner.Instruction.{Executable}
 use Rattle.steps.specs.Inner.Queueing.{tail_of, Front}
@@ -51,9 +50,9 @@ module _ {until : ℕ} {start m : Machine} {w tail : ℕ} (g : Round until start
     opcode-is : op ≡ (unpacked (get_or m.core (pc m) 0)).opcode
     opcode-is = is ∙ ap (λ (c : ℕ). (unpacked c).opcode) fetched
 
-    pub private-stops : 16 < op → given (told PrivateMemory) w (m.header.steps - start.header.steps) m ≡ given_by (plays_of (until - start.header.steps) start)
+    pub private-stops : 16 < op → given (gives 10 0) w (m.header.steps - start.header.steps) m ≡ given_by (plays_of (until - start.header.steps) start)
     private-stops h =
-        ap (λ (i : ℕ). given (told PrivateMemory) i (m.header.steps - start.header.steps) m) (sym (add-zero w))
+        ap (λ (i : ℕ). given (gives 10 0) i (m.header.steps - start.header.steps) m) (sym (add-zero w))
         ∙ stopped g.going 1 one-within (private-step m g.going.ready can-play (subst (λ (n : ℕ). 16 < n) opcode-is h) ∙ as-run m g.going.ready) refl
 
     module _ (few : op ≤ 16) where

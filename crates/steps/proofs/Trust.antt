@@ -8,8 +8,7 @@ use native.Mathlib.Omega.{arith}
 use lib.Dec.{eqb}
 use borrow.Author.Tests.{eqb-true, lt-ltb}
 use Rattle.laws.proofs.Every.{◌and◌}
-use Rattle.answer.specs.declared.Answer.{Answer}
-use Rattle.answer.specs.Numbers.{Told, told, gives}
+use Rattle.answer.specs.Numbers.{Answer, Told, told, gives}
 use Rattle.machine.specs.State.{Machine, Outcome, Verdict, accepted, refusal, first, settle, verdict_told}
 use Rattle.machine.specs.Queue.{entries}
 use Rattle.machine.specs.Soundness.{sound_entry}

@@ -3,3 +3,4 @@ pub mod Instruction
 pub mod Acts
 pub mod Queueing
 pub mod Ready
+pub mod Apart

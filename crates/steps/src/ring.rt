@@ -1,14 +1,14 @@
 // What an executed instruction does to the ring: the front entry is popped, and the next places are pushed. The tail is the slot that the next entry goes to.
 ghost use Rattle.std.specs.Prelude.{◌≡◌, cond, ℕ, ◌+◌, ◌-◌, ◌^◌, ◌<◌, ◌≤◌, eqb, get_or, set};
 ghost use Rattle.std.proofs.Math.ListN as lists;
-ghost use Rattle.answer.specs.Numbers.{told, gives};
+ghost use Rattle.answer.specs.Numbers.{told, told_error, gives};
 ghost use Rattle.offset.specs.Offset.{ahead};
 ghost use Rattle.machine.specs.Queue.{packed_entry, unpacked_entry, entry, full, started};
-ghost use Rattle.lent.specs.Parts.{queue_of};
+ghost use Rattle.steps.specs.Inner.Apart.{queue_of};
 ghost use Rattle.steps.specs.Inner.Queueing.{ring_of, Front, Near, Requeued};
 
 use crate::opcode::Executed;
-use answer::Answer;
+use answer::{Answer, Error};
 use entry::{pack, unpack};
 use machine::Entry;
 use offset::Absolute;
@@ -52,14 +52,6 @@ fn push(queue: &mut [u64], tail: u32, w: u64) -> u32
     slot_after(tail, queue.len() as u32)
 }
 
-// One more, of a number that can rise.
-fn more(n: u32) -> u32
-    requires { n ≡ 4294967295 → ⊥ }
-    ensures { result ≡ n + 1 }
-{
-    n + 1
-}
-
 // SPL's child is started, where there is room.
 fn start_child(
     queue: &mut [u64],
@@ -89,7 +81,7 @@ fn start_child(
         name,
     });
     let after = push(queue, tail, child);
-    threads[who] = more(thread);
+    threads[who] = thread + 1;
     let count = counts[who];
     counts[who] = count + 1;
     Grown {
@@ -99,18 +91,18 @@ fn start_child(
 }
 
 // A process ends: its name's count falls; the answer is 0 if the name has entries left.
-fn end_process(counts: &mut [u32; 16], name: u8, answer: Answer) -> Answer
+fn end_process(counts: &mut [u32; 16], name: u8, error: Error) -> Answer
     requires { (name < 16) × (0 < get_or counts.old name 0) }
-    ensures { (told result ≡ cond (eqb (get_or counts.old name 0 - 1) 0) (told answer) (gives 0 0))
+    ensures { (told result ≡ cond (eqb (get_or counts.old name 0 - 1) 0) (told_error error) (gives 0 0))
         × (counts.new ≡ set counts.old name (get_or counts.old name 0 - 1)) }
 {
     let who = name as usize;
     let left = counts[who] - 1;
     counts[who] = left;
     if left == 0 {
-        return answer;
+        return Err(error);
     }
-    Answer::Done
+    Ok(())
 }
 
 // The word of a sound entry at another place.
@@ -141,7 +133,7 @@ pub(crate) fn requeue(
         Executed::Goes(next, writes) => {
             let pushed = push(queue, tail, moved(w, next));
             Stepped {
-                answer: Answer::Done,
+                answer: Ok(()),
                 writes,
                 head: after,
                 tail: pushed,
@@ -153,7 +145,7 @@ pub(crate) fn requeue(
             let e = unpack(w);
             let g = start_child(queue, counts, threads, pushed, length, child, e.name);
             Stepped {
-                answer: Answer::Done,
+                answer: Ok(()),
                 writes,
                 head: after,
                 tail: g.tail,
@@ -162,7 +154,7 @@ pub(crate) fn requeue(
         }
         Executed::Dat(writes) => {
             let e = unpack(w);
-            let answer = end_process(counts, e.name, Answer::ExecuteDat(e.place.0));
+            let answer = end_process(counts, e.name, Error::ExecuteDat(e.place.0));
             Stepped {
                 answer,
                 writes,
@@ -173,7 +165,7 @@ pub(crate) fn requeue(
         }
         Executed::DivideByZero(writes) => {
             let e = unpack(w);
-            let answer = end_process(counts, e.name, Answer::DivideByZero);
+            let answer = end_process(counts, e.name, Error::DivideByZero);
             Stepped {
                 answer,
                 writes,

@@ -8,7 +8,7 @@ ghost use Rattle.machine.specs.declared.Roster.{Roster};
 ghost use Rattle.machine.specs.Queue.{unpacked_entry};
 ghost use Rattle.machine.specs.Step as spec;
 ghost use Rattle.machine.specs.Whole.{Unlimited};
-ghost use Rattle.lent.specs.Parts.{parts, queue_of};
+ghost use Rattle.steps.specs.Inner.Apart.{parts, queue_of};
 ghost use Rattle.lent.specs.Given.{given, given_by};
 ghost use Rattle.steps.specs.Inner.Instruction.{Executable};
 ghost use Rattle.steps.specs.Inner.Queueing.{ring_of, Front};

@@ -2,8 +2,7 @@
 -- Assumes nothing.
 use Prim.Native.Nat.{ℕ}
 use mathlib.Core.Path.{◌≡◌, ap, ◌∙◌}
-use Rattle.answer.specs.declared.Answer.{Answer}
-use Rattle.answer.specs.Numbers.{told, gives}
+use Rattle.answer.specs.Numbers.{Answer, told, gives}
 use Rattle.machine.specs.State.{Machine}
 use Rattle.lent.specs.Given.{Given, given}
 use Rattle.sumacadze.specs.declared.Report.{Report}

@@ -4,8 +4,7 @@ use Rattle.std.specs.Prelude.{ℕ, Bool, true, false, None, Some}
 use Rattle.cell.specs.declared.Cell.{Cell}
 use Rattle.cell.specs.Cells.{relative}
 use Rattle.machine.specs.Run.{Ceiling}
-use Rattle.answer.specs.declared.Answer.{Answer}
-use Rattle.answer.specs.Numbers.{told}
+use Rattle.answer.specs.Numbers.{Answer, told}
 use Rattle.sumacadze.specs.declared.Report.{Report}
 
 -- an answer, its writes and its steps, in numbers

@@ -4,8 +4,6 @@ ghost use Rattle.answer.specs.Numbers.{gives};
 ghost use Rattle.match_format.specs.Faults.{fault, fault_at};
 ghost use Rattle.match_file.specs.Reading.{told_by, zeroed, warriors_in, size_in, line_at, name_start, name_length, body_start, count_of, warrior_of};
 
-use answer::{number, value};
-
 // 01's number, the position of a fault, how many warriors a file has, and M.
 #[repr(C)]
 #[derive(Clone, Copy)]
@@ -36,13 +34,19 @@ pub fn sumacadze_read(file: &[u8]) -> Contents
         × (result.warriors ≡ zeroed (fault file.now) (warriors_in file.now))
         × (result.size ≡ zeroed (fault file.now) (size_in file.now)) }
 {
-    let s = match_file::read(file);
-    let answer = s.answer;
-    Contents {
-        number: number(answer),
-        position: value(answer),
-        warriors: s.warriors,
-        size: s.size,
+    match match_file::read(file) {
+        Ok(contents) => Contents {
+            number: 0,
+            position: 0,
+            warriors: contents.warriors,
+            size: contents.size,
+        },
+        Err(error) => Contents {
+            number: error.number(),
+            position: error.value(),
+            warriors: 0,
+            size: 0,
+        },
     }
 }
 
@@ -56,17 +60,26 @@ pub fn sumacadze_read_line(file: &[u8], warrior: usize) -> Line
         × (result.origin ≡ zeroed (fault_at file.now warrior) (warrior_of file.now warrior).origin)
         × (result.place ≡ zeroed (fault_at file.now warrior) (warrior_of file.now warrior).place) }
 {
-    let s = match_file::read_line(file, warrior);
-    let answer = s.answer;
-    let line = s.line;
-    Line {
-        number: number(answer),
-        position: value(answer),
-        name_start: line.name_start,
-        name_length: line.name_length,
-        body_start: line.body_start,
-        body_length: 12 * line.count as usize,
-        origin: line.origin,
-        place: line.place,
+    match match_file::read_line(file, warrior) {
+        Ok(line) => Line {
+            number: 0,
+            position: 0,
+            name_start: line.name_start,
+            name_length: line.name_length,
+            body_start: line.body_start,
+            body_length: 12 * line.count as usize,
+            origin: line.origin,
+            place: line.place,
+        },
+        Err(error) => Line {
+            number: error.number(),
+            position: error.value(),
+            name_start: 0,
+            name_length: 0,
+            body_start: 0,
+            body_length: 0,
+            origin: 0,
+            place: 0,
+        },
     }
 }

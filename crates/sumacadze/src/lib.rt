@@ -12,8 +12,9 @@ ghost use Rattle.lent.specs.Parts.{machine_of};
 ghost use Rattle.lent.specs.Given.{given, given_by};
 ghost use Rattle.sumacadze.specs.Report.{ceiling_if, cell_of};
 
-use by_value::in_numbers;
+use by_value::{ceiling_if, in_numbers};
 use machine::{Header, Rules};
+use metadata::Warrior;
 
 mod by_value;
 pub mod file;
@@ -69,17 +70,25 @@ pub fn sumacadze_get(core: &[u64], queue: &[u64], header: Header, number: i32) -
     ensures { (result.number ≡ (running.read (machine_of core.now queue.now header) number).number)
         × (cell_of result.opcode result.modifier result.a_mode result.b_mode result.a result.b ≡ unpacked (running.read (machine_of core.now queue.now header) number).value) }
 {
-    let s = sim::get(core, queue, header, number);
-    let answer = s.answer;
-    let cell = s.cell;
-    Reading {
-        number: answer::number(answer),
-        opcode: cell.opcode,
-        modifier: cell.modifier,
-        a_mode: cell.a_mode,
-        b_mode: cell.b_mode,
-        a: cell.a.0,
-        b: cell.b.0,
+    match sim::get(core, queue, header, number) {
+        Ok(cell) => Reading {
+            number: 0,
+            opcode: cell.opcode,
+            modifier: cell.modifier,
+            a_mode: cell.a_mode,
+            b_mode: cell.b_mode,
+            a: cell.a.0,
+            b: cell.b.0,
+        },
+        Err(error) => Reading {
+            number: error.number(),
+            opcode: 0,
+            modifier: 0,
+            a_mode: 0,
+            b_mode: 0,
+            a: 0,
+            b: 0,
+        },
     }
 }
 
@@ -96,7 +105,13 @@ pub fn sumacadze_load(
     ensures { given (gives result.number result.value) result.writes result.steps (machine_of core.new queue.new header.new)
         ≡ given_by (loading.load (machine_of core.old queue.old header.old) name.now body.now origin place) }
 {
-    let s = warrior::load(core, queue, *header, name, body, origin, place);
+    let w = Warrior {
+        name,
+        body,
+        origin,
+        place,
+    };
+    let s = warrior::load(core, queue, *header, w);
     *header = s.header;
     in_numbers(s.answer, s.writes, s.steps)
 }
@@ -127,7 +142,7 @@ pub fn sumacadze_run(
     ensures { given (gives result.number result.value) result.writes result.steps (machine_of core.new queue.new header.new)
         ≡ given_by (running.run (ceiling_if said ceiling) (machine_of core.old queue.old header.old)) }
 {
-    let s = by_value::run(core, queue, *header, said, ceiling);
+    let s = cycle::run(core, queue, *header, ceiling_if(said, ceiling));
     let counts = s.header.counts;
     let threads = s.header.threads;
     header.ring = s.header.ring;

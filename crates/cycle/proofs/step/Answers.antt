@@ -8,4 +8,4 @@ use Rattle.cycle.proofs.step.Goals as goal
 pub returns : goal.returns
 returns c =
     let a = c.args in
-    c.run_parts-s.ensures ∙ ap given_by (run-one (machine_of a.core.now a.queue.now a.h))
+    c.run_to.ensures ∙ ap given_by (run-one (machine_of a.core.now a.queue.now a.h))

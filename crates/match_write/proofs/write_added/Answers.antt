@@ -1,24 +1,19 @@
 -- The goals of `match_write::write_added` that the check leaves.
-use Rattle.match_format.specs.Format.{warrior}
-use Rattle.match_write.proofs.Checks.{refusing}
-use Rattle.match_file.proofs.Values.{number_read}
-use Rattle.match_write.proofs.Added.{refused, reads, earlier, added}
+use Rattle.std.proofs.Common.{rules, ◌≡◌, sym, ap, ◌∙◌, ℕ, Result, Err}
+use Rattle.answer.specs.declared.Error.{Error}
+use Rattle.match_format.specs.Format.{handed}
+use Rattle.write_checks.specs.Refusal.{given}
+use Rattle.match_write.proofs.Added.{earlier, added, not-read}
 use Rattle.match_write.proofs.write_added.Goals as goal
 
-pub returns-then-n-eq0 : goal.returns-then-n-eq0
-returns-then-n-eq0 c =
-    let a = c.args in
-    refusing a.out.now c.refuse.ensures
-    (refused a.file.now (warrior a.name.now a.body.now a.origin a.place) a.out.now c.read-contents.result.answer c.read-contents.ensures.0 c.read-contents.ensures.1 c.if-n-eq0.true)
+pub returns-in_err-contents : goal.returns-in_err-contents
+returns-in_err-contents c =
+    let r : c.from_residual.result ≡ Err c.in_err-contents.field-0.0 = search rules in
+    ap (λ (x : Result ℕ Error). given x c.args.out.now) r
+    ∙ not-read c.args.file.now (handed c.args.w) c.args.out.now c.in_err-contents.field-0.0 (sym c.in_err-contents.was ∙ c.read.ensures)
 
 pub write-requires : goal.write-requires
-write-requires c =
-    let a = c.args in
-    let e = reads a.file.now c.read-contents.ensures.1 c.if-n-eq0.false in
-    earlier a.file.now e (number_read e c.read-contents.ensures.1)
+write-requires c = earlier c.args.file.now c.in_ok-contents.contents (sym c.in_ok-contents.was ∙ c.read.ensures)
 
 pub returns : goal.returns
-returns c =
-    let a = c.args in
-    let e = reads a.file.now c.read-contents.ensures.1 c.if-n-eq0.false in
-    added a.file.now (warrior a.name.now a.body.now a.origin a.place) a.out.now e (number_read e c.read-contents.ensures.1) (number_read e c.read-contents.ensures.2) c.write.ensures
+returns c = added c.args.file.now c.in_ok-contents.contents (sym c.in_ok-contents.was ∙ c.read.ensures) (handed c.args.w) c.args.out.now c.write.ensures

@@ -15,11 +15,8 @@ pub returns-then-not-sound_header : goal.returns-then-not-sound_header
 returns-then-not-sound_header c =
     let a = c.args in
     let m = machine_of a.core.now a.queue.now a.h in
-    record {
-      answer = unsound-header m a.number
-          (sym (c.sound_header.ensures ∙ ap sound_header (whole a.core.now a.queue.now a.h c.processes_of.ensures)) ∙ c.if-not-sound_header.true);
-      cell = tt;
-    }
+    (unsound-header m a.number
+          (sym (c.sound_header.ensures ∙ ap sound_header (whole a.core.now a.queue.now a.h c.processes_of.ensures)) ∙ c.if-not-sound_header.true), tt)
 
 pub bounds-core-at : goal.bounds-core-at
 bounds-core-at c =
@@ -37,7 +34,7 @@ returns-then-not-sound c =
     let sound : sound_header m ≡ true = sym (c.sound_header.ensures ∙ ap sound_header (whole a.core.now a.queue.now a.h c.processes_of.ensures)) ∙ c.if-not-sound_header.false in
     let place : c.add-place.result.0 ≡ euclid a.number a.h.rules.size =
     place_is m a.number sound (c.reduce.ensures ∙ ap (λ (z : ℤ). euclid z a.h.rules.size) (to_z-of_z {w = w32} c.ranges.number)) c.add-place.ensures in
-    record { answer = unsound-cell m a.number sound place (sym c.sound.ensures ∙ c.if-not-sound.true); cell = tt }
+    (unsound-cell m a.number sound place (sym c.sound.ensures ∙ c.if-not-sound.true), tt)
 
 pub returns : goal.returns
 returns c =
@@ -47,4 +44,4 @@ returns c =
     let place : c.add-place.result.0 ≡ euclid a.number a.h.rules.size =
     place_is m a.number sound (c.reduce.ensures ∙ ap (λ (z : ℤ). euclid z a.h.rules.size) (to_z-of_z {w = w32} c.ranges.number)) c.add-place.ensures in
     let read = reads m a.number sound c.unpack.ensures place (sym c.sound.ensures ∙ c.if-not-sound.false) in
-    record { answer = read.0; cell = read.1 }
+    (read.0, read.1)

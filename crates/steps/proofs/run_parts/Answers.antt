@@ -1,8 +1,7 @@
 -- The goals of `steps::run_parts` that the check leaves.
-use Rattle.std.specs.Prelude.{Some}
 use mathlib.Core.Path.{sym, ap, ◌∙◌}
-use Rattle.soundness.proofs.Headers.{by_parts}
-use Rattle.lent.specs.Parts.{names_of, parts, unnamed}
+use Rattle.std.specs.Prelude.{Some}
+use Rattle.lent.specs.Parts.{parts, unnamed}
 use Rattle.lent.specs.Given.{Given, given, given_by}
 use Rattle.steps.proofs.Calls.{unsound-run, is-sound}
 use Rattle.steps.proofs.Naming.{naming, sound-ready, unnamed-ready, run-named}
@@ -11,21 +10,20 @@ use Rattle.steps.proofs.run_parts.Goals as goal
 pub returns-then-not-sound_header : goal.returns-then-not-sound_header
 returns-then-not-sound_header c =
     let a = c.args in
-    let m = parts a.core.now a.queue.now a.rules a.ring a.taken (names_of a.held a.names.now a.lengths.now) a.counts.now a.threads.now in
-    unsound-run (Some a.ceiling) m (sym (c.sound_header.ensures ∙ by_parts m.core m.queue m.header) ∙ c.if-not-sound_header.true)
+    unsound-run (Some a.ceiling) (parts a.core.now a.queue.now a.rules a.names.now a.processes.now) (sym c.sound_header.ensures ∙ c.if-not-sound_header.true)
 
 pub run_loop-requires : goal.run_loop-requires
 run_loop-requires c =
     let a = c.args in
-    let m = parts a.core.now a.queue.now a.rules a.ring a.taken (names_of a.held a.names.now a.lengths.now) a.counts.now a.threads.now in
-    let sound = is-sound m (sym (c.sound_header.ensures ∙ by_parts m.core m.queue m.header) ∙ c.if-not-sound_header.false) c.sized.ensures in
-    unnamed-ready (unnamed a.core.now a.queue.now a.rules a.ring a.taken a.held a.counts.now a.threads.now) a.names.now a.lengths.now (sound-ready m sound)
+    let m = parts a.core.now a.queue.now a.rules a.names.now a.processes.now in
+    let sound = is-sound m (sym c.sound_header.ensures ∙ c.if-not-sound_header.false) c.sized.ensures in
+    unnamed-ready (unnamed a.core.now a.queue.now a.rules a.names.now.held a.processes.now) a.names.now.bytes a.names.now.lengths (sound-ready m sound)
 
 pub returns : goal.returns
 returns c =
     let a = c.args in
-    let m = parts a.core.now a.queue.now a.rules a.ring a.taken (names_of a.held a.names.now a.lengths.now) a.counts.now a.threads.now in
-    let sound = is-sound m (sym (c.sound_header.ensures ∙ by_parts m.core m.queue m.header) ∙ c.if-not-sound_header.false) c.sized.ensures in
-    let lent = unnamed a.core.now a.queue.now a.rules a.ring a.taken a.held a.counts.now a.threads.now in
-    ap (λ (x : Given). given x.told x.writes x.steps (naming a.names.now a.lengths.now x.machine)) c.run_loop.ensures
-    ∙ sym (ap given_by (run-named a.names.now a.lengths.now a.ceiling lent sound))
+    let m = parts a.core.now a.queue.now a.rules a.names.now a.processes.now in
+    let sound = is-sound m (sym c.sound_header.ensures ∙ c.if-not-sound_header.false) c.sized.ensures in
+    let lent = unnamed a.core.now a.queue.now a.rules a.names.now.held a.processes.now in
+    ap (λ (x : Given). given x.told x.writes x.steps (naming a.names.now.bytes a.names.now.lengths x.machine)) c.run_loop.ensures
+    ∙ sym (ap given_by (run-named a.names.now.bytes a.names.now.lengths a.ceiling lent sound))

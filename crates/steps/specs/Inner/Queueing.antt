@@ -8,7 +8,7 @@ use Rattle.machine.specs.State.{Machine}
 use Rattle.machine.specs.Queue.{pop}
 use Rattle.machine.specs.Execution.{dat, divisor, Next, ends, goes, splits}
 use Rattle.machine.specs.Step.{popped, pc, queued, next_told}
-use Rattle.lent.specs.Parts.{queue_of}
+use Rattle.steps.specs.Inner.Apart.{queue_of}
 use Rattle.steps.specs.declared.opcode.Executed.{Executed}
 use Rattle.steps.specs.declared.opcode.Executed.TheVariants.{Goes, Splits, Dat, DivideByZero}
 use Rattle.steps.specs.declared.ring.Stepped.{Stepped}

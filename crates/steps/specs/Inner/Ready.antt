@@ -1,14 +1,13 @@
 -- What the run loop asks of the parts that it is lent, which have no names, and what it promises of them.
 -- Inner. Assumes nothing.
+use Rattle.answer.specs.Numbers.{Answer}
 use Rattle.std.specs.Prelude.{ℕ, zero, suc, ◌+◌, ◌-◌, ◌≤◌, ◌<◌, ◌≡◌, true, ◌⊎◌, length, take}
-use Rattle.answer.specs.declared.Answer.{Answer}
 use Rattle.laws.specs.Lists.{total}
 use Rattle.machine.specs.State.{Machine, Outcome, done, and_then, refusal, first, passes, settle}
 use Rattle.machine.specs.Soundness.{fresh_checks}
 use Rattle.machine.specs.Step.{next_checks, executed}
 use Rattle.scan.specs.Scanning.{scanned}
 use Rattle.steps.specs.declared.Ran.{Ran}
-use Rattle.steps.specs.Inner.Queueing.{ring_of}
 
 -- the tests of its header that a step uses, all but those of the names' bytes, and arrays of their lengths
 pub record Ready (m : Machine) : Type 0 where
@@ -42,6 +41,5 @@ abbrev pub Plays : ℕ → Machine → Type 0
 Plays ceiling m = Scanned ceiling m ⊎ ((ceiling ≡ m.header.steps + 1) × Playable m)
 
 -- what a run gives back
-abbrev pub ran_of : Answer → ℕ → ℕ → ℕ → ℕ → ℕ → Ran
-ran_of answer writes head length before taken =
-    record { answer = answer; writes = writes; steps = taken - before; ring = ring_of head length; taken = taken }
+abbrev pub ran_of : Answer → ℕ → ℕ → ℕ → Ran
+ran_of answer writes before taken = record { answer = answer; writes = writes; steps = taken - before }

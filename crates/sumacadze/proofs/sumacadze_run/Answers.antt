@@ -11,4 +11,5 @@ returns c =
     let a = c.args in
     let m = machine_of a.core.now a.queue.now a.header.now in
     let ceiling = ceiling_if a.said a.ceiling in
-    changed-in_numbers a.header.now (run ceiling m) c.run-s.result.answer c.in_numbers.ensures c.run-s.ensures (run-fixed ceiling m)
+    let ran = rw c.ceiling_if.ensures at c.run-s.ensures in
+    changed-in_numbers a.header.now (run ceiling m) c.run-s.result.answer c.in_numbers.ensures ran (run-fixed ceiling m)

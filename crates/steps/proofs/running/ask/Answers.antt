@@ -1,7 +1,6 @@
 -- The goals of `steps::running::ask` that the check leaves.
 use mathlib.Core.Path.{sym, subst, ◌∙◌}
 use Prim.Native.Nat.{ℕ}
-use Rattle.machine.specs.declared.Ring.{Ring}
 use Rattle.lent.specs.Parts.{unnamed}
 use Rattle.steps.specs.Inner.Ready.{Plays}
 use Rattle.steps.proofs.Trust.{not-refused, is-refused}
@@ -12,16 +11,15 @@ use Rattle.steps.proofs.running.ask.Goals as goal
 pub returns-then-not-is_done : goal.returns-then-not-is_done
 returns-then-not-is_done c =
     let a = c.args in
-    let lent = λ (r : Ring) (t : ℕ). unnamed a.core.now a.queue.now a.rules r t a.held a.counts.now a.threads.now in
-    let m = lent a.ring a.taken in
-    giving lent a.taken c.ran.ensures
+    let m = unnamed a.core.now a.queue.now a.rules a.held a.processes.now in
+    giving m a.processes.now.steps a.processes.now.steps c.ran.ensures
     (refused-call a.ceiling m c.requires.0
     (is-refused a.ceiling m c.requires.0 a.trusted c.asked-refused.result c.asked-refused.ensures (sym c.is_done.ensures ∙ c.if-not-is_done.true)))
 
 pub play-requires : goal.play-requires
 play-requires c =
     let a = c.args in
-    let m = unnamed a.core.now a.queue.now a.rules a.ring a.taken a.held a.counts.now a.threads.now in (
+    let m = unnamed a.core.now a.queue.now a.rules a.held a.processes.now in (
       c.requires.0,
       subst (λ (u : ℕ). Plays u m) (sym c.limit-until.ensures)
           (not-refused a.ceiling m c.requires.0 a.trusted c.asked-refused.result c.asked-refused.ensures (sym c.is_done.ensures ∙ c.if-not-is_done.false) c.requires.1),

@@ -1,16 +1,16 @@
 -- What the loop of `steps::running::run_loop` keeps, and its measure.
-use Prim.Native.Nat.{◌-◌, ◌≤◌}
+use Prim.Native.Nat.{◌-◌}
+use mathlib.Core.Path.{◌≡◌}
 use Rattle.lent.specs.Parts.{unnamed}
-use Rattle.steps.specs.Inner.Queueing.{ring_of}
 use Rattle.steps.proofs.Loop.{Going}
 use Rattle.steps.proofs.Rounds.{Trusting}
 use Rattle.steps.proofs.running.run_loop.Given as goal
 
 abbrev pub invariant-loop-done : goal.invariant-loop-done
 invariant-loop-done l =
-    let i = l.initial in
-    Going l.ceiling (unnamed i.core i.queue i.rules (ring_of i.head i.length) l.taken l.held i.counts i.threads) (unnamed l.core l.queue l.rules (ring_of l.head l.length) l.done l.held l.counts l.threads) l.writes
-    × Trusting l.ceiling (unnamed l.core l.queue l.rules (ring_of l.head l.length) l.done l.held l.counts l.threads) l.trusted × (l.done ≤ 4294967295)
+    let i = l.fn in
+    Going l.ceiling (unnamed i.core i.queue l.rules l.held i.processes) (unnamed l.core l.queue l.rules l.held l.processes) l.writes
+    × Trusting l.ceiling (unnamed l.core l.queue l.rules l.held l.processes) l.trusted × (l.done ≡ l.processes.steps)
 
 abbrev pub decreases-loop-done : goal.decreases-loop-done
 decreases-loop-done l = l.ceiling - l.done
