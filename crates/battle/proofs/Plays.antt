@@ -24,7 +24,7 @@ use Rattle.match_file.proofs.Values.{no-fault, is_read, refusal-told}
 use Rattle.lent.specs.Given.{Given, given, given_by}
 use Rattle.match_load.specs.Loading.{load_match}
 use Rattle.match_load.proofs.Sound.{match-keeps}
-use Rattle.battle.specs.Match.{Result, refused, ran, after_loads, after_fresh, after_reading, result}
+use Rattle.battle.specs.Match.{Result, refused, after_loads, after_fresh, after_reading, result}
 
 -- a machine that is run is sound: fresh made it, and every warrior was loaded
 module _ (f : List ℕ) (rules : Rules) (core queue : List ℕ) (made : Told) {w s : ℕ} (m : Machine)

@@ -1,6 +1,6 @@
 -- The goals of `battle::playing::play_loaded` that the check leaves.
 use mathlib.Core.Path.{ap}
-use Rattle.answer.specs.Numbers.{Told, told}
+use Rattle.answer.specs.Numbers.{told}
 use Rattle.lent.specs.Parts.{machine_of}
 use Rattle.battle.proofs.Plays.{runs-few}
 use Rattle.battle.proofs.playing.play_loaded.Goals as goal
