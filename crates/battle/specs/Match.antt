@@ -1,13 +1,11 @@
 -- What comes of a match file that is played (01, 'Match file', `play`).
 -- Believed. Assumes nothing.
-use Rattle.std.specs.Prelude.{ℕ, cond, List, eqb, ltb, length, replicate, None}
+use Rattle.std.specs.Prelude.{ℕ, cond, List, eqb, ltb, length, replicate, Option, None, Some}
 use Rattle.answer.specs.Numbers.{Told, gives}
 use Rattle.machine.specs.declared.Header.{Header}
 use Rattle.machine.specs.State.{of_size, Outcome, told_by}
 use Rattle.machine.specs.Fresh.{fresh}
 use Rattle.machine.specs.Run.{run}
-use Rattle.match_format.specs.declared.Fault.{Fault}
-use Rattle.match_format.specs.declared.Fault.TheVariants.{Nowhere, At}
 use Rattle.match_format.specs.Faults.{fault}
 use Rattle.match_file.specs.Reading.{size_in}
 use Rattle.match_load.specs.Loading.{load_match}
@@ -29,9 +27,9 @@ abbrev pub after_fresh : List ℕ → Outcome → Result
 after_fresh f o = cond (eqb o.number 0) (after_loads (load_match o.machine f).outcome) (refused (told_by o))
 
 -- M to 8,000, else 1
-abbrev pub after_reading : List ℕ → Fault → Result
-after_reading f (At p) = refused (gives 13 p)
-after_reading f Nowhere =
+abbrev pub after_reading : List ℕ → Option ℕ → Result
+after_reading f (Some p) = refused (gives 13 p)
+after_reading f None =
     cond (ltb 8000 (size_in f)) (refused (gives 1 0)) (after_fresh f (fresh (of_size (size_in f)) (replicate (size_in f) 0) (replicate 2000 0)))
 
 -- at most 32,768 bytes, else 13 at 32,768

@@ -1,64 +1,55 @@
-// The kinds of words in the order in which a text has them: after M and `warrior` come a name, an origin, a place, and six words for each instruction.
-use crate::words::{Number, same, signed, unsigned};
+// The kinds of words, in the order in which a text has them.
+use std::fmt;
 
-pub(crate) const SIZE: u8 = 0;
-
-pub(crate) const WARRIOR: u8 = 1;
-
-pub(crate) const NAME: u8 = 2;
-
-pub(crate) const ORIGIN: u8 = 3;
-
-pub(crate) const PLACE: u8 = 4;
-
-pub(crate) const OPCODE: u8 = 5;
-
-pub(crate) const MODIFIER: u8 = 6;
-
-pub(crate) const A_MODE: u8 = 7;
-
-pub(crate) const B_MODE: u8 = 8;
-
-pub(crate) const A_NUMBER: u8 = 9;
-
-pub(crate) const B_NUMBER: u8 = 10;
-
-// The kind of the word after one; after an instruction comes another.
-pub(crate) fn next(kind: u8) -> u8 {
-    if kind >= B_NUMBER {
-        return OPCODE;
-    }
-    kind + 1
+// After M and `warrior` come a name, an origin, a place, and six words for each instruction.
+#[derive(Clone, Copy, PartialEq, Eq)]
+pub(crate) enum Kind {
+    Size,
+    Warrior,
+    Name,
+    Origin,
+    Place,
+    Opcode,
+    Modifier,
+    AMode,
+    BMode,
+    ANumber,
+    BNumber,
 }
 
-// The number that a word of a kind says.
-pub(crate) fn number(kind: u8, word: &[u8]) -> Number {
-    match kind {
-        OPCODE..=B_MODE => unsigned(word, 255),
-        A_NUMBER | B_NUMBER => signed(word),
-        ORIGIN => {
-            if same(word, b"-") {
-                return Number::Bits(65535);
-            }
-            unsigned(word, 65535)
+impl Kind {
+    // The kind of the word after one; after an instruction comes another.
+    pub(crate) fn next(self) -> Kind {
+        match self {
+            Kind::Size => Kind::Warrior,
+            Kind::Warrior => Kind::Name,
+            Kind::Name => Kind::Origin,
+            Kind::Origin => Kind::Place,
+            Kind::Place | Kind::BNumber => Kind::Opcode,
+            Kind::Opcode => Kind::Modifier,
+            Kind::Modifier => Kind::AMode,
+            Kind::AMode => Kind::BMode,
+            Kind::BMode => Kind::ANumber,
+            Kind::ANumber => Kind::BNumber,
         }
-        _ => unsigned(word, 4294967295),
     }
 }
 
-// Says on standard error which kind of word is wanted.
-pub(crate) fn tell(kind: u8) {
-    match kind {
-        SIZE => io::write_all(2, b"the core size M, a number"),
-        WARRIOR => io::write_all(2, b"the word warrior"),
-        NAME => io::write_all(2, b"a name, or - for none"),
-        ORIGIN => io::write_all(2, b"an origin from 0 to 65535, or - for none"),
-        PLACE => io::write_all(2, b"a place, a number"),
-        OPCODE => io::write_all(2, b"an opcode from 0 to 255, or the word warrior"),
-        MODIFIER => io::write_all(2, b"a modifier from 0 to 255"),
-        A_MODE => io::write_all(2, b"an A mode from 0 to 255"),
-        B_MODE => io::write_all(2, b"a B mode from 0 to 255"),
-        A_NUMBER => io::write_all(2, b"an A number of 32 bits"),
-        _ => io::write_all(2, b"a B number of 32 bits"),
-    };
+// What a word of a kind may be.
+impl fmt::Display for Kind {
+    fn fmt<W: fmt::Write>(&self, f: &mut fmt::Formatter<W>) -> fmt::Result {
+        f.write_str(match self {
+            Kind::Size => "the core size M, a number",
+            Kind::Warrior => "the word warrior",
+            Kind::Name => "a name, or - for none",
+            Kind::Origin => "an origin from 0 to 65535, or - for none",
+            Kind::Place => "a place, a number",
+            Kind::Opcode => "an opcode from 0 to 255, or the word warrior",
+            Kind::Modifier => "a modifier from 0 to 255",
+            Kind::AMode => "an A mode from 0 to 255",
+            Kind::BMode => "a B mode from 0 to 255",
+            Kind::ANumber => "an A number of 32 bits",
+            Kind::BNumber => "a B number of 32 bits",
+        })
+    }
 }

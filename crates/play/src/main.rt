@@ -2,25 +2,15 @@
 #![tactic(auto)]
 
 use battle::print;
-use memory::file_memory;
-use std::io::{Read, Stdin};
-
-// Whether standard input fails where reading stopped; at its end it does not.
-fn fails(mut input: Stdin) -> bool {
-    let mut more = [0u8; 1];
-    input.read(&mut more).is_err()
-}
+use memory::{file_memory, read_into};
 
 fn main(rt: HostRuntime) {
     let mut file = file_memory();
-    let n = io::read_full(0, &mut file);
-    if n < file.len() {
-        if fails(rt.stdin()) {
-            io::write_all(2, b"play: standard input cannot be read\n");
-            return;
-        }
-    }
-    if !print(&file[..n]) {
-        io::write_all(2, b"play: standard output takes no more\n");
+    let Ok(length) = read_into(&mut rt.stdin(), &mut file) else {
+        let _ = eprintln!(rt; "play: standard input cannot be read");
+        return;
+    };
+    if !print(&file[..length]) {
+        let _ = eprintln!(rt; "play: standard output takes no more");
     }
 }

@@ -4,48 +4,27 @@
 use battle::print;
 use memory::file_memory;
 
-// A byte as a wider number.
-fn wide(b: u8) -> usize {
-    b as usize
-}
-
-// Reads a file that fills the memory, and plays it.
-fn play_part(memory: &mut [u8]) {
-    let n = io::read_full(0, memory);
-    print(&memory[..n]);
-}
-
-// Reads a file of k bytes into the memory, and plays it.
-fn play_next(memory: &mut [u8], k: usize) {
-    if k > memory.len() {
-        return;
-    }
-    play_part(&mut memory[..k]);
-}
-
-// Reads a length and a file, and plays it; whether there was one.
-fn one() -> bool {
+// Reads a length and a file, and plays it where it fits into the memory; whether there was a length.
+fn play_next() -> bool {
     let mut head = [0u8; 3];
-    if io::read_full(0, &mut head) < 3 {
+    if io::read_full(0, &mut head) < head.len() {
         return false;
     }
-    let length = wide(head[0]) | wide(head[1]) << 8 | wide(head[2]) << 16;
-    let mut file = file_memory();
-    play_next(&mut file, length);
+    let [low, middle, high] = head;
+    let length = u32::from_le_bytes([low, middle, high, 0]) as usize;
+    let mut memory = file_memory();
+    if let Some(file) = memory.get_mut(..length) {
+        let n = io::read_full(0, file);
+        print(&file[..n]);
+    }
     true
 }
 
-// At most that many files.
-fn all(most: u32) {
-    let mut left = most;
-    while left > 0 {
-        if !one() {
+// At most 10,000 files.
+fn main() {
+    for _ in 0..10000 {
+        if !play_next() {
             return;
         }
-        left = left - 1;
     }
-}
-
-fn main() {
-    all(10000);
 }

@@ -1,134 +1,54 @@
 // Plays battles that were recorded from the Rust, and writes what each call left. tools/oracle/README.md has both forms.
 #![tactic(auto)]
 
-ghost use Rattle.std.specs.Prelude.{◌≡◌, length};
+ghost use Rattle.std.specs.Prelude.{◌<◌, length};
 
-use crate::reading::{after, byte, four, part, two};
-use crate::writing::tell;
-use cycle::{run, step};
+use crate::call::Call;
+use crate::input::Input;
+use crate::line::tell;
 use fold::of_size;
-use machine::{Ceiling, Header, Outcome};
+use memory::zeros;
 use sim::fresh;
-use warrior::load;
+use std::io::Result;
 
-mod reading;
-mod writing;
-
-// A load: name length, name, origin, instruction count and body.
-fn load_call(input: &[u8], at: usize, core: &mut [u64], queue: &mut [u64], h: Header) -> Outcome {
-    let name_length = byte(input, at) as usize;
-    let name = part(input, after(at, 1), name_length);
-    let then = after(after(at, 1), name_length);
-    let origin = two(input, then);
-    let bytes = two(input, after(then, 2)) as usize * 12;
-    let body = part(input, after(then, 4), bytes);
-    load(core, queue, h, name, body, origin, 0)
-}
-
-// A call, by its kind.
-fn call(input: &[u8], at: usize, core: &mut [u64], queue: &mut [u64], h: Header) -> Outcome {
-    let kind = byte(input, at);
-    match kind {
-        0 => load_call(input, after(at, 1), core, queue, h),
-        1 => step(core, queue, h),
-        2 => {
-            let ceiling = four(input, after(at, 1)) as u64;
-            run(core, queue, h, Ceiling::Steps(ceiling))
-        }
-        _ => run(core, queue, h, Ceiling::Unsaid),
-    }
-}
-
-// Where the call after one begins.
-fn next(input: &[u8], at: usize) -> usize {
-    let kind = byte(input, at);
-    let start = after(at, 1);
-    match kind {
-        0 => {
-            let then = after(after(start, 1), byte(input, start) as usize);
-            let bytes = two(input, after(then, 2)) as usize * 12;
-            after(after(then, 4), bytes)
-        }
-        2 => after(at, 5),
-        _ => start,
-    }
-}
-
-// The calls of a battle; gives where the next battle begins.
-fn calls(
-    input: &[u8],
-    at: usize,
-    count: u16,
-    core: &mut [u64],
-    queue: &mut [u64],
-    h: Header,
-) -> usize {
-    let mut here = at;
-    let mut left = count;
-    let mut header = h;
-    while left > 0 {
-        let o = call(input, here, core, queue, header);
-        let answer = o.answer;
-        header = o.header;
-        tell(core, queue, header, answer);
-        here = next(input, here);
-        left = left - 1;
-    }
-    here
-}
+mod call;
+mod input;
+mod line;
 
 // A battle: core size, number of calls, the calls.
-fn battle(input: &[u8], at: usize, core: &mut [u64], queue: &mut [u64]) -> usize {
-    let size = two(input, at) as u32;
-    let count = two(input, after(at, 2));
-    let cells = size as usize;
-    if cells > core.len() {
-        return input.len();
+fn battle(input: &mut Input<'_>, core: &mut [u64], queue: &mut [u64]) -> Result<()>
+    requires { 0 < length input.old.rest.now }
+    ensures { length input.new.rest.now < length input.old.rest.now }
+{
+    let size = input.two();
+    let calls = input.two();
+    let Some(core) = core.get_mut(..size as usize) else {
+        input.rest = &[];
+        return Ok(());
+    };
+    let mut header = fresh(of_size(size as u32), core, queue).header;
+    for _ in 0..calls {
+        let outcome = Call::read(input).make(core, queue, header);
+        header = outcome.header;
+        tell(core, queue, outcome)?;
     }
-    let lent = &mut core[..cells];
-    let o = fresh(of_size(size), lent, queue);
-    let h = o.header;
-    calls(input, after(at, 4), count, lent, queue, h)
+    Ok(())
 }
 
 // All battles.
-fn battles(input: &[u8], core: &mut [u64], queue: &mut [u64]) {
-    let mut at: usize = 0;
-    let mut left = input.len();
-    while left > 0 {
-        if at >= input.len() {
-            return;
-        }
-        at = battle(input, at, core, queue);
-        left = left - 1;
+fn battles(input: &[u8], core: &mut [u64], queue: &mut [u64]) -> Result<()> {
+    let mut input = Input { rest: input };
+    while !input.rest.is_empty() {
+        battle(&mut input, core, queue)?;
     }
+    Ok(())
 }
 
-// Memory for the input.
-fn input_memory() -> [u8; 1200000]
-    ensures { 1200000 ≡ length result }
-{
-    [0; 1200000]
-}
-
-// Memory for the largest core.
-fn core_memory() -> [u64; 46341]
-    ensures { 46341 ≡ length result }
-{
-    [0; 46341]
-}
-
-// Memory for a queue whose limit no recorded battle meets.
-fn queue_memory() -> [u64; 16384]
-    ensures { 16384 ≡ length result }
-{
-    [0; 16384]
-}
-
+// Memory for the input, the largest core, and a queue whose limit no recorded battle meets.
 fn main() {
-    let mut input = input_memory();
-    let mut core = core_memory();
-    let mut queue = queue_memory();
-    let n = io::read_full(0, &mut input);
-    battles(&input[..n], &mut core, &mut queue);
+    let mut input = zeros::<1200000>();
+    let mut core = [0; 46341];
+    let mut queue = [0; 16384];
+    let length = io::read_full(0, &mut input);
+    let _ = battles(&input[..length], &mut core, &mut queue);
 }

@@ -2,14 +2,8 @@
 use Rattle.battle.proofs.Printing.{prints-run, prints-refusal}
 use Rattle.battle.proofs.play.Goals as goal
 
-pub returns-then-p : goal.returns-then-p
-returns-then-p c =
-    let p = c.play_file-p in
-    prints-run c.args.file.now p.result.answer p.result.steps p.result.writes p.result.header p.result.ran p.ensures.0
-    (p.ensures.1 c.if-p.true) c.if-p.true c.put_run.ensures
+pub returns-in-Ok : goal.returns-in-Ok
+returns-in-Ok c = prints-run c.args.file.now c.in-Ok.run' c.in-Ok.ensures.comes c.in-Ok.ensures.few c.put_run.ensures
 
-pub returns : goal.returns
-returns c =
-    let p = c.play_file-p in
-    prints-refusal c.args.file.now p.result.answer p.result.steps p.result.writes p.result.header p.result.ran p.ensures.0
-    c.if-p.false c.put_refusal.ensures
+pub returns-in-Err : goal.returns-in-Err
+returns-in-Err c = prints-refusal c.args.file.now c.in-Err.error c.in-Err.ensures.comes c.put_refusal.ensures

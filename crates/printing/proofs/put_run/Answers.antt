@@ -1,5 +1,8 @@
 -- The goals of `printing::put_run` that the check leaves.
-use Rattle.printing.proofs.Puts.{then}
+use mathlib.Core.Path.{subst}
+use Rattle.printing.specs.Text.{decimal}
+use Rattle.printing.specs.Inner.Adding.{Adds}
+use Rattle.printing.proofs.Adding.{then, from-start}
 use Rattle.printing.proofs.Lines.{run-text, no_text}
 use Rattle.printing.proofs.put_run.Goals as goal
 
@@ -8,10 +11,11 @@ returns-then-h-gt16 c = no_text _ c.args.steps c.args.writes c.args.h c.args.out
 
 pub returns : goal.returns
 returns c =
-    run-text c.args.steps c.args.writes c.args.h c.if-h-gt16.false c.number.ensures
-    (then c.put_decimal-numbered.ensures.0
-    (then c.put_byte-first.ensures
-    (then c.put_decimal-stepped.ensures.0
-    (then c.put_byte-second.ensures
-    (then c.put_decimal-written.ensures.0
-    (then c.put_byte-ended.ensures c.put_names.ensures))))))
+    run-text _ c.args.steps c.args.writes c.args.h c.if-h-gt16.false
+    (from-start c.new-lines.ensures.same_bytes c.new-lines.ensures.empty
+    (then (subst (λ n. Adds c.new-lines.result c.decimal.new.self (decimal n)) c.number.ensures c.decimal.ensures.adds)
+    (then c.byte.ensures
+    (then c.decimal-2.ensures.adds
+    (then c.byte-2.ensures
+    (then c.decimal-3.ensures.adds
+    (then c.byte-3.ensures c.names.ensures)))))))

@@ -1,9 +1,0 @@
--- What a loop of `make_match::reading::take_words` keeps.
-use Rattle.std.proofs.Common.{◌-◌, ◌≤◌, length}
-use Rattle.make_match.proofs.reading.take_words.Given as goal
-
-abbrev pub invariant-loop-at : goal.invariant-loop-at
-invariant-loop-at l = l.at ≤ length l.text
-
-abbrev pub decreases-loop-at : goal.decreases-loop-at
-decreases-loop-at l = length l.text - l.at

@@ -1,9 +1,0 @@
--- What a loop of `make_match::words::from_digits` keeps.
-use Rattle.std.proofs.Common.{◌-◌, ◌≤◌, length}
-use Rattle.make_match.proofs.words.from_digits.Given as goal
-
-abbrev pub invariant-loop-i : goal.invariant-loop-i
-invariant-loop-i l = l.i ≤ length l.word
-
-abbrev pub decreases-loop-i : goal.decreases-loop-i
-decreases-loop-i l = length l.word - l.i

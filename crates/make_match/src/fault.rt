@@ -1,0 +1,59 @@
+// Why there is no match file.
+use crate::kind::Kind;
+use answer::Error;
+use std::fmt;
+
+// Words and warriors are counted from 1.
+#[derive(Clone, Copy)]
+pub(crate) enum Fault {
+    Unreadable,
+    TooLong,
+    NotWanted { word: usize, wanted: Kind },
+    EndsEarly { word: usize, wanted: Kind },
+    Refused { warrior: usize, error: Error },
+    NotTaken,
+}
+
+impl fmt::Display for Fault {
+    fn fmt<W: fmt::Write>(&self, f: &mut fmt::Formatter<W>) -> fmt::Result {
+        match *self {
+            Fault::Unreadable => write!(f, "standard input cannot be read"),
+            Fault::TooLong => write!(f, "the text is longer than 65536 bytes"),
+            Fault::NotWanted { word, wanted } => {
+                write!(f, "word {word} is not what is wanted: {wanted}")
+            }
+            Fault::EndsEarly { word, wanted } => write!(
+                f,
+                "the text ends after word {word}, where more is wanted: {wanted}"
+            ),
+            Fault::Refused { warrior, error } => {
+                let number = error.number();
+                let reason = Reason(error);
+                write!(f, "warrior {warrior} is refused with {number}: {reason}")
+            }
+            Fault::NotTaken => write!(f, "standard output takes no more"),
+        }
+    }
+}
+
+// When the writer gives an error.
+#[derive(Clone, Copy)]
+struct Reason(Error);
+
+impl fmt::Display for Reason {
+    fn fmt<W: fmt::Write>(&self, f: &mut fmt::Formatter<W>) -> fmt::Result {
+        match self.0 {
+            Error::InvalidCoreSize => write!(f, "M is not 1 to 46341"),
+            Error::WarriorTooLong => write!(f, "longer than M"),
+            Error::InvalidCode(index) => write!(
+                f,
+                "no such opcode, modifier, mode or default, instruction index {index}"
+            ),
+            Error::InvalidNameOrPlace => write!(
+                f,
+                "name over 32 bytes or with a byte outside 33 to 126, or place not below M"
+            ),
+            _ => write!(f, "a 17th warrior, or a file of more than 32768 bytes"),
+        }
+    }
+}

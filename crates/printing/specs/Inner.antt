@@ -1,0 +1,2 @@
+-- Inner definitions: no promise of a public function and no demand reaches them.
+pub mod Adding

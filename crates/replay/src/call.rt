@@ -1,0 +1,50 @@
+// The calls of a recorded battle.
+ghost use Rattle.std.specs.Prelude.{◌≤◌, length};
+
+use crate::input::Input;
+use cycle::{run, step};
+use machine::{Header, Outcome};
+use metadata::Warrior;
+use warrior::load;
+
+#[derive(Clone, Copy)]
+pub(crate) enum Call<'a> {
+    Load(Warrior<'a>),
+    Step,
+    Run(Option<u64>),
+}
+
+impl<'a> Call<'a> {
+    // Reads a call: its kind, then a load's name length, name, origin, instruction count and body, or a run's ceiling.
+    pub(crate) fn read(input: &mut Input<'a>) -> Self
+        ensures { length input.new.rest.now ≤ length input.old.rest.now }
+    {
+        match input.byte() {
+            0 => {
+                let length = input.byte() as usize;
+                let name = input.part(length);
+                let origin = input.two();
+                let instructions = input.two() as usize;
+                let body = input.part(12 * instructions);
+                Call::Load(Warrior {
+                    name,
+                    body,
+                    origin,
+                    place: 0,
+                })
+            }
+            1 => Call::Step,
+            2 => Call::Run(Some(input.four() as u64)),
+            _ => Call::Run(None),
+        }
+    }
+
+    // Makes the call.
+    pub(crate) fn make(self, core: &mut [u64], queue: &mut [u64], h: Header) -> Outcome {
+        match self {
+            Call::Load(warrior) => load(core, queue, h, warrior),
+            Call::Step => step(core, queue, h),
+            Call::Run(ceiling) => run(core, queue, h, ceiling),
+        }
+    }
+}
