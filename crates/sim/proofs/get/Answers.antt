@@ -14,9 +14,11 @@ use Rattle.sim.proofs.get.Goals as goal
 pub returns-then-not-sound_header : goal.returns-then-not-sound_header
 returns-then-not-sound_header c =
     let a = c.args in
-    let m = machine_of a.core.now a.queue.now a.h in
-    (unsound-header m a.number
-          (sym (c.sound_header.ensures ∙ ap sound_header (whole a.core.now a.queue.now a.h c.processes_of.ensures)) ∙ c.if-not-sound_header.true), tt)
+    let m = machine_of a.core.now a.queue.now a.h in (
+      unsound-header m a.number
+          (sym (c.sound_header.ensures ∙ ap sound_header (whole a.core.now a.queue.now a.h c.processes_of.ensures)) ∙ c.if-not-sound_header.true),
+      tt,
+    )
 
 pub bounds-core-at : goal.bounds-core-at
 bounds-core-at c =
