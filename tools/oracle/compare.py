@@ -31,8 +31,7 @@ DEPENDS = ["laws", "answer", "offset", "types", "cell", "encoding", "metadata", 
 USES = """\
 use Rattle.cell.specs.Cells.{sound_word}
 use Rattle.program.specs.Program.{lawful, lowest_fault, cells}
-use Rattle.machine.specs.declared.Ceiling.{Ceiling}
-use Rattle.machine.specs.declared.Ceiling.TheVariants.{Unsaid, Steps}
+use Rattle.std.specs.Prelude.{None, Some}
 use Rattle.machine.specs.State.{of_size, Machine, Outcome}
 use Rattle.machine.specs.Names.{names, register, numbered}
 use Rattle.machine.specs.Queue.{entries, pop, push, started}
@@ -42,7 +41,7 @@ use Rattle.machine.specs.Load.{loaded, load}
 use Rattle.machine.specs.Pointers.{operand}
 use Rattle.machine.specs.Execution.{effect_of}
 use Rattle.machine.specs.Step.{effect, core_after, step_written, counted, executed, step}
-use Rattle.machine.specs.Run.{run}
+use Rattle.machine.specs.Run.{Ceiling, run}
 """
 
 # the shut names that a battle computes through
@@ -91,8 +90,8 @@ pub data Call : Type 0 where
   runs : Option ℕ → Call
 
 abbrev ceilings : Option ℕ → Ceiling
-ceilings none = Unsaid
-ceilings (some n) = Steps n
+ceilings none = None
+ceilings (some n) = Some n
 
 abbrev answered : Call → Machine → Outcome
 answered (loads name body origin) m = {LOAD}

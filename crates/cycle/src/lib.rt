@@ -12,7 +12,7 @@ use lent::{header_of, processes_of};
 use machine::{Header, Outcome};
 use steps::run_parts;
 
-// Steps while steps taken are below a ceiling, up to the first answer not 0. Written into both callers: called by them, it makes an outer step a third slower.
+// Steps while steps taken are below a ceiling, up to the first answer not 0. Written into both callers: called by them, it makes an outer step take 41 to 52 % more instructions.
 #[inline(always)]
 fn run_to(core: &mut [u64], queue: &mut [u64], h: Header, ceiling: u64) -> Outcome
     ensures { given (told result.answer) result.writes result.steps (machine_of core.new queue.new result.header)

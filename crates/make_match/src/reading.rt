@@ -35,7 +35,7 @@ struct Reading<'a> {
     file: MatchFile,
 }
 
-// The number that a word says.
+// The number that a word says. `parse` takes a plus sign too, which a text has not.
 fn number<T: FromStr>(word: &[u8]) -> Option<T>
 where
     T::Err: Drop,

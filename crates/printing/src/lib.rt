@@ -1,7 +1,6 @@
 // Puts the lines that `play` prints into memory, part by part (01, 'Match file', `play`). The memory is lent and a length given back, since there is no heap.
 #![tactic(auto)]
 
-ghost use Rattle.std.specs.Prelude.{◌≡◌};
 ghost use Rattle.answer.specs.Numbers.{told};
 ghost use Rattle.printing.specs.Text as spec;
 ghost use Rattle.printing.specs.Text.{Puts};

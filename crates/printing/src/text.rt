@@ -42,7 +42,7 @@ impl<'a> Text<'a> {
         self.bytes(&[b]);
     }
 
-    // Puts a number in decimal digits.
+    // Puts a number in decimal digits. `write!` would give a Result, and `io::decimal` cannot fail.
     pub(crate) fn decimal(&mut self, n: u64)
         requires { self.old.length + 20 ≤ length self.old.memory.now }
         ensures adds { Adds self.old self.new (spec.decimal n) }

@@ -1,8 +1,8 @@
 // One scan of a lent record: whether it is sound all through, and no counter comes to its end within the steps to go.
 #![tactic(auto)]
 
-ghost use Rattle.std.specs.Prelude.{◌≡◌, ◌&&◌, [], ◌<◌, ◌≤◌, eqb, length, get_or};
-ghost use Rattle.laws.specs.Lists.{every, table};
+ghost use Rattle.std.specs.Prelude.{◌≡◌, ◌&&◌, [], ◌<◌, ◌≤◌, length};
+ghost use Rattle.laws.specs.Lists.{every};
 ghost use Rattle.cell.specs.Cells.{sound_word};
 ghost use Rattle.lent.specs.Parts.{unnamed};
 ghost use Rattle.scan.specs.Scanning.{sound_entries, tallied, lasting, scanned};

@@ -1,5 +1,5 @@
 // Operands of an instruction that is not refused, where both limits are M: where they point, and the cells that they read and change (01, 'Pointers').
-ghost use Rattle.std.specs.Prelude.{◌≡◌, true, ◌<◌, ◌≤◌, length, get_or, set};
+ghost use Rattle.std.specs.Prelude.{◌≡◌, true, ◌<◌, ◌≤◌, length, get_or};
 ghost use Rattle.cell.specs.Cells.{unpacked, sound_word};
 ghost use Rattle.machine.specs.Pointers as spec;
 ghost use Rattle.machine.specs.Instruction.{fetched};
