@@ -10,7 +10,7 @@ use Rattle.std.specs.Prelude.{Result, Ok, Err}
 use borrow.Author.Tests.{eq-eqb}
 use Rattle.answer.specs.declared.Error.{Error}
 use Rattle.answer.specs.declared.Error.TheVariants.{InvalidCode}
-use Rattle.answer.specs.Numbers.{Told, gives, told}
+use Rattle.answer.specs.Numbers.{told}
 use Rattle.laws.specs.Lists.{among}
 use Rattle.laws.proofs.Every.{◌and◌}
 use Rattle.cell.specs.declared.Cell.{Cell}

@@ -8,7 +8,6 @@ use native.Mathlib.Omega.{arith}
 use lib.ListN.{get_or, set}
 use Rattle.offset.specs.declared.Absolute.{Absolute}
 use Rattle.offset.specs.Offset.{ahead}
-use Rattle.types.specs.Types.{Field}
 use Rattle.cell.specs.Cells.{packed, unpacked, sound_word, number, with_number}
 use Rattle.cell.proofs.Soundness.{sound-fields}
 use Rattle.word.proofs.Cells.{ahead-below, number-below}

@@ -1,6 +1,4 @@
 -- The goals of `refusal::in_bounds` that the check leaves.
-use mathlib.Core.List.{[]}
-use Rattle.lent.specs.Parts.{unnamed}
 use Rattle.refusal.proofs.Refusing.{in-bounds-tests}
 use Rattle.refusal.proofs.in_bounds.Goals as goal
 

@@ -3,7 +3,6 @@ use Rattle.std.proofs.Common.{rules}
 use Rattle.std.specs.Prelude.{Err}
 use mathlib.Core.Path.{◌≡◌, sym, ap, ◌∙◌}
 use Rattle.answer.specs.Numbers.{told}
-use Rattle.machine.specs.declared.Entry.{Entry}
 use Rattle.lent.specs.Parts.{unnamed}
 use Rattle.refusal.proofs.Refusing.{out-of-bounds, size-most, cells, limits, place-below, by-front, by-cell}
 use Rattle.refusal.proofs.refusal.Goals as goal

@@ -1,6 +1,5 @@
 -- The goals of `steps::running::play` that the check leaves.
-use mathlib.Core.Path.{sym, ap, ◌∙◌}
-use mathlib.Core.Bool.{not}
+use mathlib.Core.Path.{sym, ◌∙◌}
 use mathlib.Core.List.{[]}
 use native.Mathlib.Omega.{arith}
 use Rattle.lent.specs.Parts.{names_of}
