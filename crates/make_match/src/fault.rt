@@ -15,6 +15,7 @@ pub(crate) enum Fault {
 }
 
 impl fmt::Display for Fault {
+    // What is the matter, and at which word or warrior.
     fn fmt<W: fmt::Write>(&self, f: &mut fmt::Formatter<W>) -> fmt::Result {
         match *self {
             Fault::Unreadable => write!(f, "standard input cannot be read"),
@@ -36,11 +37,12 @@ impl fmt::Display for Fault {
     }
 }
 
-// When the writer gives an error.
+// An error that the writer gives.
 #[derive(Clone, Copy)]
 struct Reason(Error);
 
 impl fmt::Display for Reason {
+    // When the writer gives it.
     fn fmt<W: fmt::Write>(&self, f: &mut fmt::Formatter<W>) -> fmt::Result {
         match self.0 {
             Error::InvalidCoreSize => write!(f, "M is not 1 to 46341"),

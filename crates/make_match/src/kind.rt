@@ -35,8 +35,8 @@ impl Kind {
     }
 }
 
-// What a word of a kind may be.
 impl fmt::Display for Kind {
+    // What a word of the kind may be.
     fn fmt<W: fmt::Write>(&self, f: &mut fmt::Formatter<W>) -> fmt::Result {
         f.write_str(match self {
             Kind::Size => "the core size M, a number",
