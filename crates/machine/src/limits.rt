@@ -11,3 +11,6 @@ pub const LAST_NUMBER: u32 = 4294967295;
 
 // The origin that says none.
 pub const NO_ORIGIN: u16 = 65535;
+
+// The most names held.
+pub const MOST_NAMES: u32 = 16;

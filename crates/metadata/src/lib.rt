@@ -14,7 +14,7 @@ pub struct Warrior<'a> {
 }
 
 // The bytes of the longest name.
-const LONGEST: usize = 32;
+pub const LONGEST: usize = 32;
 
 // Whether a name has at most 32 bytes, each of 33 to 126.
 pub fn valid_name(name: &[u8]) -> bool
