@@ -53,7 +53,7 @@ pub fn unpack(w: u64) -> Cell
     }
 }
 
-// The word with another A number.
+// The word with another A number. A function of the field would choose between this line and that of `with_b`, as `word::with_number` does.
 pub fn with_a(w: u64, a: Relative) -> u64
     ensures { result ≡ packed (with_number Field.A a.0 (unpacked w)) }
 {

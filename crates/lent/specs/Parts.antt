@@ -1,14 +1,13 @@
 -- A machine from the parts that a call is lent, and what a call does to it where its numbers are in range.
 -- Believed. Assumes nothing.
 use Rattle.std.specs.Prelude.{ℕ, Bool, cond, not, ◌&&◌, List, [], eqb, leb, ltb, length, get_or}
-use Rattle.machine.specs.declared.Entry.{Entry}
 use Rattle.machine.specs.declared.Header.{Header}
 use Rattle.machine.specs.declared.Processes.{Processes}
 use Rattle.machine.specs.declared.Roster.{Roster}
 use Rattle.machine.specs.declared.Rules.{Rules}
 use Rattle.machine.specs.State.{of_size, Machine}
 use Rattle.machine.specs.Names.{register}
-use Rattle.machine.specs.Queue.{full, push, started}
+use Rattle.machine.specs.Queue.{full, started}
 
 -- a machine of these memories and header
 abbrev pub machine_of : List ℕ → List ℕ → Header → Machine
@@ -49,10 +48,6 @@ headed m = leb (length m.queue) 65535 && ltb m.header.ring.head (length m.queue)
 -- there is room for an entry of the name at i, and its count can rise
 abbrev pub has_room : Machine → ℕ → Bool
 has_room m i = headed m && not (full m i) && ltb i 16 && not (eqb (get_or m.header.counts i 0) 4294967295)
-
--- push, where there is room
-unfoldable pub push_if : Entry → Machine → Machine
-push_if e m = cond (has_room m e.name) (push e m) m
 
 -- a process started, where there is room and a thread number left
 unfoldable pub start_if : ℕ → ℕ → Machine → Machine

@@ -1,23 +1,28 @@
 -- A body, instruction by instruction: the lowest faulty one, and the words that they become.
 -- Assumes nothing.
-use mathlib.Core.Path.{◌≡◌, refl, sym, ◌∙◌}
+use mathlib.Core.Path.{◌≡◌, refl, sym, ap, ◌∙◌}
 use mathlib.Core.Bool.{Bool, true, false, cond, not}
-use lib.Dec.{ltb}
+use lib.Dec.{eqb, ltb}
 use mathlib.Core.List.{List, [], ◌∷◌, map}
 use Prim.Native.Nat.{ℕ, zero, suc, ◌+◌, ◌-◌, ◌*◌, ◌/◌, ◌%◌, ◌<◌, ◌≤◌}
 use native.Mathlib.Nat.{sub-zero, zero-add}
 use native.Mathlib.Numerals.{add-one}
 use native.Mathlib.Omega.{arith}
 use lib.ListN.{length-drop, length, get_or, take, drop, set}
-use Rattle.std.proofs.Common.{Some, None, min, inl, inr}
+use Rattle.std.proofs.Common.{Option, Some, None, min, inl, inr}
+use Rattle.std.specs.Bool.{then_some}
+use Rattle.std.specs.Option.{option_or}
+use Rattle.std.specs.List.{position}
 use Rattle.std.proofs.lemmas.Bool.{cases_lt}
-use borrow.Author.Tests.{lt-ltb, le-ltb}
+use borrow.Author.Tests.{eqb-true, eqb-false, lt-ltb, le-ltb}
 use Rattle.std.specs.Simd.{first_chunks}
 use lib.Seq.{drop-drop, sets}
 use Rattle.laws.specs.Lists.{lowest}
 use Rattle.laws.proofs.Lists.{fall, done, sets-past}
+use Rattle.laws.proofs.Lowest.{position-lowest}
 use Rattle.cell.specs.Cells.{packed}
 use Rattle.program.proofs.Front.{cut_short}
+use Rattle.program.proofs.Program.{length-split}
 use Rattle.program.specs.Program.{instructions, split, lawful, lowest_fault, fault_in, cell_of, cells}
 
 -- what is left of n instructions from the i-th on
@@ -33,36 +38,78 @@ rest-first body n i h = rw (fall n i h, drop-drop 12 (12 * i) body, twelve i)
 pub rest-none : (body : List ℕ) (n i : ℕ) → n ≤ i → rest body n i ≡ []
 rest-none body n i h = rw (done n i h)
 
--- the lowest faulty index, where the first i instructions are lawful
-abbrev pub From : List ℕ → ℕ → Type 0
-From body i = lowest_fault body ≡ i + lowest (λ x. not (lawful x)) (rest body (instructions body) i)
+-- the whole instructions of a body
+pub chunks : (n : ℕ) (body : List ℕ) → first_chunks 12 n body ≡ split n body
+chunks zero body = refl
+chunks (suc n) body = ap (λ xs. take 12 body ∷ xs) (chunks n (drop 12 body))
 
-module _ (body : List ℕ) (i : ℕ) (so_far : From body i) where
-  step : i < instructions body
-      → lowest_fault body ≡ i + cond (not (lawful (take 12 (drop (12 * i) body)))) 0 (suc (lowest (λ x. not (lawful x)) (rest body (instructions body) (i + 1))))
-  step h = so_far ∙ rw (rest-first body (instructions body) i h)
+-- the lowest that fails of n instructions and m more
+module _ (fails : List ℕ → Bool) where
+  pub lowest-past : (n m : ℕ) (body : List ℕ) → lowest fails (split (n + m) body)
+      ≡ cond (ltb (lowest fails (split n body)) n) (lowest fails (split n body)) (n + lowest fails (split m (drop (12 * n) body)))
+  lowest-past zero m body = simp zero-add refl
+  lowest-past (suc n) m body =
+      ap (λ k. lowest fails (split k body)) (let e : suc n + m ≡ suc (n + m) = omega arith in e)
+      ∙ ap (λ k. cond (fails (take 12 body)) 0 (suc k)) (lowest-past n m (drop 12 body) ∙ rw (drop-drop, twelve n))
+      ∙ go (fails (take 12 body)) (lowest fails (split n (drop 12 body)))
+    where
+      twelve : (i : ℕ) → 12 + 12 * i ≡ 12 * suc i
+      twelve i = omega arith
 
-  pub found : i < instructions body → lawful (take 12 (drop (12 * i) body)) ≡ false → i ≡ lowest_fault body
-  found h e = sym (rw e at (step h) ∙ omega arith)
+      past : ℕ
+      past = lowest fails (split m (drop (12 * suc n) body))
 
-  pub further : i < instructions body → lawful (take 12 (drop (12 * i) body)) ≡ true → From body (i + 1)
-  further h e = rw e at (step h) ∙ omega arith
+      go : (b : Bool) (k : ℕ) → cond b 0 (suc (cond (ltb k n) k (n + past))) ≡ cond (ltb (cond b 0 (suc k)) (suc n)) (cond b 0 (suc k)) (suc n + past)
+      go true k = rw (lt-ltb 0 (suc n) (omega arith))
+      go false k = elim (cases_lt k n) [
+        | inl l ↦ rw (lt-ltb k n l, lt-ltb (suc k) (suc n) (omega arith))
+        | inr g ↦ rw (le-ltb k n g, le-ltb (suc k) (suc n) (omega arith)) (omega arith)
+      ]
 
-  pub nowhere : i ≤ instructions body → instructions body ≤ i → instructions body ≡ lowest_fault body
-  nowhere l h = sym (so_far ∙ rw (rest-none body (instructions body) i h) (omega arith))
+-- the first fault: of the whole instructions, else the last one, where it is cut short
+module _ (body : List ℕ) where
+  abbrev whole : ℕ
+  whole = length body / 12
 
-  -- the place of a fault, where there is one
-  pub found_at : i < instructions body → lawful (take 12 (drop (12 * i) body)) ≡ false → Some i ≡ fault_in body
-  found_at h e = let is = found h e in sym (rw (← is, lt-ltb i (instructions body) h))
+  abbrev first : ℕ
+  first = lowest (λ x. not (lawful x)) (split whole body)
 
-  -- past the last whole instruction: one cut short is faulty
-  pub cut_at : i ≡ length body / 12 → (length body % 12 ≡ 0 → ⊥) → Some i ≡ fault_in body
-  cut_at e n = found_at (omega arith) (sym (cut_short (drop (12 * i) body) (rw length-drop (omega arith))))
+  is : lowest_fault body ≡ cond (ltb first whole) first (whole + lowest (λ x. not (lawful x)) (split (instructions body - whole) (drop (12 * whole) body)))
+  unfolding lowest_fault
+  is =
+      ap (λ n. lowest (λ x. not (lawful x)) (split n body)) (let e : instructions body ≡ whole + (instructions body - whole) = omega arith in e)
+      ∙ lowest-past (λ x. not (lawful x)) whole (instructions body - whole) body
 
-  pub none_at : i ≡ length body / 12 → length body % 12 ≡ 0 → None ≡ fault_in body
-  none_at e z =
-      let is = nowhere (omega arith) (omega arith) in
-      sym (rw (le-ltb (lowest_fault body) (instructions body) (omega arith)))
+  pub first_of : {r : Option ℕ} {none : Bool} {xs : List (List ℕ)} → r ≡ position (λ x. not (lawful x)) xs → xs ≡ first_chunks 12 whole body
+      → none ≡ eqb (length body % 12) 0 → option_or r (then_some (not none) whole) ≡ fault_in body
+  first_of {r} {none} {xs} p c f = elim (cases_lt first whole) [
+    | inl l ↦ found l
+    | inr g ↦ not_found g (eqb (length body % 12) 0) refl
+  ]
+    where
+      e : r ≡ cond (ltb first whole) (Some first) None
+      e = p ∙ rw (c, chunks, position-lowest (λ x. not (lawful x)) (split whole body), length-split whole body)
+
+      found : first < whole → option_or r (then_some (not none) whole) ≡ fault_in body
+      found l =
+          let t = lt-ltb first whole l in
+          let at : lowest_fault body ≡ first = is ∙ rw t in
+          rw (e, t) (sym (rw at (rw (lt-ltb first (instructions body) (omega arith)))))
+
+      not_found : whole ≤ first → (b : Bool) → eqb (length body % 12) 0 ≡ b → option_or r (then_some (not none) whole) ≡ fault_in body
+      not_found g true z =
+          let t = le-ltb first whole g in
+          let m : length body % 12 ≡ 0 = eqb-true _ 0 z in
+          let n : instructions body - whole ≡ 0 = omega arith in
+          let at : lowest_fault body ≡ whole = is ∙ rw (t, n) (omega arith) in
+          rw (e, t, f, z) (sym (rw at (rw (le-ltb whole (instructions body) (omega arith)))))
+      not_found g false z =
+          let t = le-ltb first whole g in
+          let m : length body % 12 ≡ 0 → ⊥ = eqb-false _ 0 z in
+          let n : instructions body - whole ≡ 1 = omega arith in
+          let cut : lawful (take 12 (drop (12 * whole) body)) ≡ false = sym (cut_short (drop (12 * whole) body) (rw length-drop (omega arith))) in
+          let at : lowest_fault body ≡ whole = is ∙ rw (t, n, cut) (omega arith) in
+          rw (e, t, f, z) (sym (rw at (rw (lt-ltb whole (instructions body) (omega arith)))))
 
 -- what the place of a fault, or none, says
 pub fault_is : (body : List ℕ) {fault : ℕ} → Some fault ≡ fault_in body → (fault ≡ lowest_fault body) × (ltb (lowest_fault body) (instructions body) ≡ true)
@@ -92,10 +139,6 @@ chunk (suc n) (suc i) body x h = chunk n i (drop 12 body) x (omega arith) ∙ rw
 pub chunk_of : (body : List ℕ) {ys : List (List ℕ)} (i : ℕ) (x : List ℕ) → ys ≡ first_chunks 12 (length body / 12) body → i < length body / 12
     → get_or ys i x ≡ take 12 (drop (12 * i) body)
 chunk_of body i x e h = rw e (chunk (length body / 12) i body x h)
-
-pub from_start : (body : List ℕ) → From body 0
-unfolding lowest_fault
-from_start body = rw (sub-zero, zero-add)
 
 -- the words of instructions
 abbrev pub words : ℕ → List (List ℕ) → List ℕ

@@ -18,8 +18,7 @@ use types::{default_88_to_94, has_default};
 pub fn len(body: &[u8]) -> usize
     ensures { result ≡ instructions body.now }
 {
-    let bytes = body.len();
-    bytes / 12 + (bytes % 12 + 11) / 12
+    body.len().div_ceil(12)
 }
 
 // The modifier of an instruction, 255 resolved.
@@ -50,15 +49,8 @@ pub fn lowest_fault(body: &[u8]) -> Option<usize>
     ensures { result ≡ fault_in body.now }
 {
     let (whole, cut) = body.as_chunks::<12>();
-    for i in 0..whole.len() {
-        if !is_lawful(&whole[i]) {
-            return Some(i);
-        }
-    }
-    if cut.is_empty() {
-        return None;
-    }
-    Some(whole.len())
+    let faulty = whole.iter().position(|x| !is_lawful(x));
+    faulty.or((!cut.is_empty()).then_some(whole.len()))
 }
 
 // The word that an instruction becomes in a core of that size.
@@ -83,7 +75,8 @@ pub fn write_cells(core: &mut [u64], body: &[u8], size: u32)
 {
     let (whole, _) = body.as_chunks::<12>();
     let count = whole.len().min(core.len());
-    for i in 0..count {
-        core[i] = word_of(&whole[i], size);
+    // Of `core.iter_mut().zip(whole)`, as of any adapter of `iter_mut`, the check knows no values.
+    for (i, x) in whole[..count].iter().enumerate() {
+        core[i] = word_of(x, size);
     }
 }

@@ -3,7 +3,6 @@
 use Rattle.std.specs.Prelude.{ℕ, Bool, cond, ◌&&◌, [], ◌∷◌, eqb, leb, Option, None, Some, Result, Ok, Err}
 use Rattle.answer.specs.declared.Error.{Error}
 use Rattle.answer.specs.declared.Error.TheVariants.{InvalidCode}
-use Rattle.answer.specs.Numbers.{Told, gives}
 use Rattle.laws.specs.Lists.{among}
 use Rattle.types.specs.Opcode.{DAT, MOV, ADD, SUB, MUL, DIV, MOD, JMP, JMZ, JMN, DJN, CMP, SEQ, SNE, SLT, SPL, NOP, STP}
 use Rattle.types.specs.Modifier.{B, AB, F, I}
@@ -38,10 +37,6 @@ default_of op a b = cond (ranged op a b) (default_modifier op a b) unnamed
 abbrev pub given : ℕ → Option ℕ
 given modifier = cond (eqb modifier unnamed) None (Some modifier)
 
--- 4, index 0, where there is none
-abbrev pub told_of : ℕ → Told
-told_of modifier = cond (eqb modifier unnamed) (gives 4 0) (gives 0 0)
-
--- the same as what a call gives
+-- the same as what a call gives: 4, index 0, where there is none
 abbrev pub defaulted : ℕ → Result ℕ Error
 defaulted modifier = cond (eqb modifier unnamed) (Err (InvalidCode 0)) (Ok modifier)

@@ -54,7 +54,7 @@ fn default_of(opcode: u8, a_mode: u8, b_mode: u8) -> Option<u8>
     default_modifier(opcode, a_mode, b_mode)
 }
 
-// Whether these codes have a default: all in range do, but LDP and STP without `#`.
+// Whether these codes have a default: all in range do, but LDP and STP without `#`. By `default_of`, which goes through the rule, the check of an instruction without a modifier takes 26 to 28 instructions where it takes 18.
 pub fn has_default(opcode: u8, a_mode: u8, b_mode: u8) -> bool
     ensures { result ≡ leb (default_of opcode a_mode b_mode) I }
 {

@@ -14,5 +14,5 @@ pub const X: u8 = 5;
 
 pub const I: u8 = 6;
 
-// In a match file it asks for the default; as a default it says that there is none.
+// In a body it asks for the default.
 pub const UNNAMED: u8 = 255;

@@ -16,7 +16,7 @@ pub fn opcode(w: u64) -> u64
     (w >> 41) & 31
 }
 
-// The number of the A mode.
+// The number of the A mode. It is a twin of the next: one function of the field would have to choose the shift.
 pub fn a_mode(w: u64) -> u64
     ensures { result ≡ (spec.unpacked w).a_mode }
 {
@@ -30,7 +30,7 @@ pub fn b_mode(w: u64) -> u64
     (w >> 32) & 7
 }
 
-// The number in a field, which is told by its first bit.
+// The number in a field, which is told by its first bit. It takes any number, and `types::Field` would take two.
 pub fn number(w: u64, field: u64) -> Relative
     ensures { result.0 ≡ spec.number (field_by field) (spec.unpacked w) }
 {

@@ -1,31 +1,16 @@
 -- The goals of `program::lowest_fault` that the check leaves.
-use mathlib.Core.Path.{◌≡◌, sym, ap, ◌∙◌}
-use native.Mathlib.Omega.{arith}
-use lib.ListN.{length}
-use borrow.Author.Tests.{eqb-true, eqb-false}
-use Rattle.std.proofs.Common.{Some}
+use Rattle.std.proofs.Common.{rules, arith, not, length, eqb, ap, ◌≡◌, ◌∙◌, ◌/◌, ◌%◌}
+use Rattle.std.proofs.lemmas.Iterator.{YieldsList-from_slice}
+use Rattle.std.proofs.lemmas.Iterator.Search.{position_from_yields_List}
 use Rattle.program.specs.Program.{lawful}
-use Rattle.program.proofs.Bodies.{from_start, further, found_at, cut_at, none_at, chunk_of}
+use Rattle.program.proofs.Bodies.{first_of}
 use Rattle.program.proofs.lowest_fault.Goals as goal
-
-pub loop-i-init : goal.loop-i-init
-loop-i-init c = from_start c.args.body.now
-
-pub returns-then-not-is_lawful : goal.returns-then-not-is_lawful
-returns-then-not-is_lawful c =
-    found_at c.args.body.now _ c.loop-i.invariant (omega arith)
-    (ap lawful (sym (chunk_of c.args.body.now c.loop-i.i _ c.as_chunks.ensures.front (omega arith))) ∙ sym c.is_lawful.ensures ∙ c.if-not-is_lawful.true)
-
-pub loop-i-preserved : goal.loop-i-preserved
-loop-i-preserved c =
-    further c.args.body.now _ c.loop-i.invariant (omega arith)
-    (ap lawful (sym (chunk_of c.args.body.now c.loop-i.i _ c.as_chunks.ensures.front (omega arith))) ∙ sym c.is_lawful.ensures ∙ c.if-not-is_lawful.false)
-
-pub returns-then-is_empty : goal.returns-then-is_empty
-returns-then-is_empty c = none_at c.args.body.now _ c.loop-i.invariant (omega arith) (sym c.as_chunks.ensures.back_len ∙ eqb-true _ 0 (sym c.is_empty.ensures ∙ c.if-is_empty.true))
 
 pub returns : goal.returns
 returns c =
-    let end : c.loop-i.i ≡ length c.as_chunks.result.0.now = omega arith in
-    ap Some (sym end) ∙ cut_at c.args.body.now _ c.loop-i.invariant (omega arith)
-    (λ none. eqb-false _ 0 (sym c.is_empty.ensures ∙ c.if-is_empty.false) (c.as_chunks.ensures.back_len ∙ none))
+    let body = c.args.body.now in
+    let n : length c.as_chunks.result.0.now ≡ length body / 12 = omega arith in
+    let m : length c.as_chunks.result.1.now ≡ length body % 12 = omega arith in
+    rw (c.or.ensures, c.then_some.ensures, n)
+    (first_of body (position_from_yields_List {all = c.as_chunks.result.0.now} (λ x. not (lawful x)) _ _ c.position-faulty.result c.position-faulty.ensures.ran (YieldsList-from_slice _ cc) (λ x b q k. search rules))
+    c.as_chunks.ensures.front (c.is_empty.ensures ∙ ap (λ k. eqb k 0) m))
