@@ -5,9 +5,9 @@ use mathlib.Core.Bool.{Bool, true, false, cond, not, ◌&&◌}
 use mathlib.Core.List.{List}
 use Prim.Native.Nat.{ℕ, ◌≤◌, ◌<◌}
 use native.Mathlib.Omega.{arith}
-use lib.Dec.{eqb, leb, ltb}
+use lib.Dec.{eqb, ltb}
 use lib.ListN.{get_or}
-use borrow.Author.Tests.{le-leb, lt-leb, lt-ltb, le-ltb, eq-eqb}
+use borrow.Author.Tests.{le-leb, lt-leb, lt-ltb, le-ltb, eq-eqb, ne_eqb}
 use Rattle.answer.specs.Numbers.{Told, gives}
 use Rattle.program.specs.Program.{instructions, lowest_fault, fault_in}
 use Rattle.program.proofs.Bodies.{fault_is, no_fault}
@@ -16,8 +16,9 @@ use Rattle.metadata.specs.Metadata.{valid_name, called}
 use Rattle.machine.specs.State.{Machine, accepted, refusal, first, verdict_told}
 use Rattle.machine.specs.Names.{slot, is_new, seventeenth}
 use Rattle.machine.specs.Queue.{full}
+use Rattle.names.specs.Finding.{found}
+use Rattle.names.proofs.Naming.{held_at, held-lt, not_held}
 use Rattle.load_checks.specs.Refusal.{tested_checks, tested_told}
-use Rattle.load_checks.proofs.Index.{slot-le, new_is, six, eight}
 
 either : {A : Type 0} (b : Bool) (x : A) → cond b x x ≡ x
 either true x = refl
@@ -73,25 +74,34 @@ module _ (m : Machine) (name body : List ℕ) (place : ℕ) where
                   (cond (not (is_new m.header.names (called name)) && eqb (get_or m.header.threads (slot m.header.names (called name)) 0) 4294967295) (refusal 8 0) accepted)
               reached = simp (s, fits, lawful-body, v, lt-leb m.header.rules.size place p, r)
 
-              module _ {i : ℕ} (found : i ≡ cond (leb m.header.names.held 16) (slot m.header.names (called name)) m.header.names.held) where
+              -- a name that is held
+              module _ {i : ℕ} (at : Some i ≡ found m.header.names (called name)) where
+                old : is_new m.header.names (called name) ≡ false
+                old = (held_at m.header.names (called name) at).0
+
                 index_is : i ≡ slot m.header.names (called name)
-                index_is = found ∙ simp (le-leb m.header.names.held 16 few)
+                index_is = (held_at m.header.names (called name) at).1
 
-                pub no_index : 16 ≤ i → Gives (gives 6 0)
+                pub below : i < 16
+                below = let l : i < m.header.names.held = held-lt m.header.names (called name) at in omega arith
+
+                pub no_number : get_or m.header.threads i 0 ≡ 4294967295 → Gives (gives 8 0)
                 unfolding tested_told
-                no_index h =
-                    let e : i ≡ slot m.header.names (called name) = index_is in
-                    let l : slot m.header.names (called name) ≤ m.header.names.held = slot-le m.header (called name) in
-                    let f : m.header.names.held ≤ 16 = few in
-                    ap verdict_told {x = refusal 6 0}
-                    (sym (reached ∙ simp (new_is m.header (called name) index_is, eq-eqb i m.header.names.held (omega arith), eq-eqb m.header.names.held 16 (omega arith))))
+                no_number e = ap verdict_told {x = refusal 8 0} (sym (reached ∙ simp (old, ← index_is, eq-eqb _ _ e)))
 
-                module _ (free : i < 16) where
-                  pub no_number : (ltb i m.header.names.held && eqb (get_or m.header.threads i 0) 4294967295) ≡ true → Gives (gives 8 0)
-                  unfolding tested_told
-                  no_number e =
-                      ap verdict_told {x = refusal 8 0} (sym (reached ∙ simp (six m.header (called name) index_is free, eight m.header (called name) index_is ∙ e)))
+                pub passed_held : (get_or m.header.threads i 0 ≡ 4294967295 → ⊥) → Gives (gives 0 0)
+                unfolding tested_told
+                passed_held e = ap verdict_told {x = accepted} (sym (reached ∙ simp (old, ← index_is, ne_eqb _ _ e)))
 
-                  pub passed : (ltb i m.header.names.held && eqb (get_or m.header.threads i 0) 4294967295) ≡ false → Gives (gives 0 0)
-                  unfolding tested_told
-                  passed e = ap verdict_told {x = accepted} (sym (reached ∙ simp (six m.header (called name) index_is free, eight m.header (called name) index_is ∙ e)))
+              -- one that is not
+              module _ (absent : None ≡ found m.header.names (called name)) where
+                new : is_new m.header.names (called name) ≡ true
+                new = not_held m.header.names (called name) few absent
+
+                pub no_index : m.header.names.held ≡ 16 → Gives (gives 6 0)
+                unfolding tested_told
+                no_index e = ap verdict_told {x = refusal 6 0} (sym (reached ∙ simp (new, eq-eqb _ _ e)))
+
+                pub passed_new : (m.header.names.held ≡ 16 → ⊥) → Gives (gives 0 0)
+                unfolding tested_told
+                passed_new e = ap verdict_told {x = accepted} (sym (reached ∙ simp (new, ne_eqb _ _ e)))

@@ -1,4 +1,4 @@
--- Laws of a name's index: it is at most the number of names held, and that where the name is new.
+-- Laws of a name's index: below 16 where it is no seventeenth name's, and the number of names held where the name is new.
 -- Assumes nothing.
 use mathlib.Core.Path.{◌≡◌, refl, sym, ap, ap₂, ◌∙◌}
 use mathlib.Core.Bool.{Bool, true, false, not, ◌&&◌, true≢false}
@@ -6,33 +6,16 @@ use mathlib.Core.List.{List}
 use Prim.Native.Nat.{ℕ, ◌≤◌, ◌<◌}
 use native.Mathlib.Omega.{arith}
 use lib.Dec.{eqb, leb, ltb}
-use lib.ListN.{length, get_or}
-use borrow.Author.Tests.{leb-true, leb-false, eqb-true, eqb-false, lt-ltb, le-ltb, eq-eqb, ne_eqb}
-use Rattle.laws.specs.Lists.{same}
-use Rattle.laws.proofs.Tables.{length-table}
-use Rattle.laws.proofs.Lowest.{lowest-le}
+use lib.ListN.{get_or}
+use borrow.Author.Tests.{leb-true, leb-false, eqb-true, eqb-false, lt-ltb, le-ltb, eq-eqb}
 use Rattle.machine.specs.declared.Header.{Header}
-use Rattle.machine.specs.Names.{name_at, names, slot, is_new, seventeenth}
-
--- the index of a name
-pub slot-le : (h : Header) (name : List ℕ) → slot h.names name ≤ h.names.held
-slot-le h name =
-    let l : slot h.names name ≤ length (names h.names) = lowest-le (same name) (names h.names) in
-    let n : length (names h.names) ≡ h.names.held = length-table (name_at h.names) 0 h.names.held in
-    omega arith
+use Rattle.machine.specs.Names.{slot, is_new, seventeenth}
+use Rattle.names.proofs.Naming.{slot-le}
 
 pub new_is : (h : Header) (name : List ℕ) {i : ℕ} → i ≡ slot h.names name → is_new h.names name ≡ eqb i h.names.held
 new_is h name e = ap (λ (k : ℕ). eqb k h.names.held) (sym e)
 
 module _ (h : Header) (name : List ℕ) {i : ℕ} (index_is : i ≡ slot h.names name) where
-  -- an index below 16 is no seventeenth name's, and the other way round
-  pub six : i < 16 → seventeenth h.names name ≡ false
-  six free = ap (λ (b : Bool). b && eqb h.names.held 16) (new_is h name index_is) ∙ go (eqb i h.names.held) refl
-    where
-      go : (b : Bool) → eqb i h.names.held ≡ b → (b && eqb h.names.held 16) ≡ false
-      go true e = let k : i ≡ h.names.held = eqb-true i h.names.held e in ne_eqb h.names.held 16 (omega arith)
-      go false e = refl
-
   pub not-six : h.names.held ≤ 16 → seventeenth h.names name ≡ false → i < 16
   not-six few e = go (leb 16 i) refl
     where
@@ -40,7 +23,7 @@ module _ (h : Header) (name : List ℕ) {i : ℕ} (index_is : i ≡ slot h.names
       go true g =
           let k : 16 ≤ i = leb-true 16 i g in
           let q : i ≡ slot h.names name = index_is in
-          let l : slot h.names name ≤ h.names.held = slot-le h name in
+          let l : slot h.names name ≤ h.names.held = slot-le h.names name in
           absurd
           (true≢false
           (sym (simp (new_is h name index_is, eq-eqb i h.names.held (omega arith), eq-eqb h.names.held 16 (omega arith))) ∙ e))
@@ -57,5 +40,5 @@ module _ (h : Header) (name : List ℕ) {i : ℕ} (index_is : i ≡ slot h.names
       go false e =
           let k : i ≡ h.names.held → ⊥ = eqb-false i h.names.held e in
           let q : i ≡ slot h.names name = index_is in
-          let l : slot h.names name ≤ h.names.held = slot-le h name in
+          let l : slot h.names name ≤ h.names.held = slot-le h.names name in
           sym (lt-ltb i h.names.held (omega arith))

@@ -7,7 +7,7 @@ ghost use Rattle.lent.specs.Parts.{parts};
 ghost use Rattle.load_checks.specs.Refusal.{tested_told};
 
 use answer::{Answer, Error};
-use machine::limits::LAST_NUMBER;
+use machine::limits::{LAST_NUMBER, MOST_NAMES};
 use machine::{Processes, Roster, Rules};
 use metadata::{Warrior, called, valid_name};
 use names::find;
@@ -24,7 +24,7 @@ pub fn refusal(
 ) -> Answer
     ensures { told result ≡ tested_told (parts [] queue.now rules names.now processes.now) w.entry.name.now w.entry.body.now w.entry.place }
 {
-    if names.held > 16 {
+    if names.held > MOST_NAMES {
         return Err(Error::UnsoundRecord);
     }
     if (rules.size as usize) < len(w.body) {
@@ -42,12 +42,9 @@ pub fn refusal(
     if full(queue, processes) {
         return Err(Error::NoRoom);
     }
-    let i = find(names, called(w.name));
-    if 16 <= i {
-        return Err(Error::NoRoom);
+    match find(names, called(w.name)) {
+        None if names.held == MOST_NAMES => Err(Error::NoRoom),
+        Some(i) if processes.threads[i as usize] == LAST_NUMBER => Err(Error::NumbersExhausted),
+        _ => Ok(()),
     }
-    if i < names.held && processes.threads[i as usize] == LAST_NUMBER {
-        return Err(Error::NumbersExhausted);
-    }
-    Ok(())
 }

@@ -1,15 +1,18 @@
 // The names that a header holds: finding one, and registering one.
 #![tactic(auto)]
 
-ghost use Rattle.std.specs.Prelude.{◌≡◌, cond, ◌++◌, ◌-◌, ◌*◌, ◌≤◌, ◌<◌, leb, length, replicate};
+ghost use Rattle.std.specs.Prelude.{◌≡◌, ◌++◌, ◌-◌, ◌*◌, ◌≤◌, ◌<◌, length, replicate};
 ghost use Rattle.std.proofs.lemmas.List.Edits.{sets};
 ghost use Rattle.laws.specs.Lists.{same};
-ghost use Rattle.machine.specs.Names.{name_at, slot};
+ghost use Rattle.machine.specs.Names.{name_at};
 ghost use Rattle.lent.specs.Parts.{named_of, register_if};
+ghost use Rattle.names.specs.Finding.{found};
 
 use encoding::part;
 use encoding::store::copy;
+use machine::limits::MOST_NAMES;
 use machine::{Processes, Roster};
+use metadata::LONGEST;
 
 // Whether two names are the same bytes.
 pub fn equal(a: &[u8], b: &[u8]) -> bool
@@ -22,25 +25,20 @@ pub fn equal(a: &[u8], b: &[u8]) -> bool
 pub fn name_at(names: &Roster, i: usize) -> &[u8]
     ensures { result.now ≡ name_at names.now i }
 {
-    if 16 <= i {
+    if MOST_NAMES as usize <= i {
         return &names.bytes[..0];
     }
     part(&names.bytes, 32 * i, names.lengths[i] as usize)
 }
 
-// The index of a name; where it is not held, how many are: the slot that it would have.
-pub fn find(names: &Roster, name: &[u8]) -> u32
-    ensures { result ≡ cond (leb names.now.held 16) (slot names.now name.now) names.now.held }
+// The index of a name, where it is held.
+pub fn find(names: &Roster, name: &[u8]) -> Option<u32>
+    ensures { result ≡ found names.now name.now }
 {
-    if names.held > 16 {
-        return names.held;
+    if names.held > MOST_NAMES {
+        return None;
     }
-    for i in 0..names.held {
-        if equal(name, name_at(names, i as usize)) {
-            return i;
-        }
-    }
-    names.held
+    (0..names.held).find(|i| equal(name, name_at(names, *i as usize)))
 }
 
 // Writes a name to a slot of 32 bytes, padded with zeros.
@@ -57,7 +55,7 @@ fn write_name(bytes: &mut [u8; 512], slot: usize, name: &[u8])
 pub fn register(names: &mut Roster, processes: &mut Processes, name: &[u8])
     ensures { named_of names.new processes.new ≡ register_if (named_of names.old processes.old) name.now }
 {
-    if 16 <= names.held || name.len() > 32 {
+    if MOST_NAMES <= names.held || name.len() > LONGEST {
         return;
     }
     let slot = names.held as usize;

@@ -5,7 +5,7 @@ use mathlib.Core.Bool.{Bool, true, false, cond, not, ◌&&◌}
 use mathlib.Core.List.{List, []}
 use Prim.Native.Nat.{ℕ, ◌≤◌, ◌<◌}
 use native.Mathlib.Omega.{arith}
-use lib.Dec.{eqb, leb}
+use lib.Dec.{eqb}
 use lib.ListN.{length, get_or}
 use borrow.Author.Tests.{leb-false, ltb-false, eqb-true, le-leb, lt-ltb, not-false}
 use Rattle.answer.specs.Numbers.{Told, gives}
@@ -19,14 +19,14 @@ use Rattle.machine.specs.declared.Processes.{Processes}
 use Rattle.machine.specs.declared.Roster.{Roster}
 use Rattle.machine.specs.declared.Rules.{Rules}
 use Rattle.machine.specs.State.{Machine, under, with_core, Verdict, accepted, refusal, first, settle, verdict_told}
-use Rattle.machine.specs.Names.{slot, register, registered, numbered}
+use Rattle.machine.specs.Names.{slot, is_new, register, registered, numbered}
 use Rattle.machine.specs.Queue.{push, started}
 use Rattle.machine.specs.Load.{origin_of}
 use Rattle.machine.proofs.Checks.{passed, without, others}
 use Rattle.lent.specs.Parts.{processes_of, header_of, parts, named_of, queue_of, has_room, start_if, register_if}
 use Rattle.lent.specs.Given.{Given, given, given_by}
 use Rattle.load_checks.specs.Refusal.{tested_checks, tested_told}
-use Rattle.load_checks.proofs.Index.{new_is, not-six, eight}
+use Rattle.load_checks.proofs.Index.{not-six, eight}
 use Rattle.warrior.specs.Tested.{placed_if, loaded_if, load_tested}
 use Rattle.warrior.specs.Inner.Accepted.{Accepted}
 
@@ -54,22 +54,21 @@ module _ (core queue : List ℕ) (rules : Rules) (names : Roster) (p : Processes
   size-some e = let l : place < rules.size = a.below in omega arith
 
   -- the names after registering, from their parts
-  registered-is : under_rules rules (cond (eqb i names.held) (register_if (named_of names p) name) (named_of names p)) ≡ registered (header_of rules names p) name
+  registered-is : under_rules rules (cond (is_new names name) (register_if (named_of names p) name) (named_of names p)) ≡ registered (header_of rules names p) name
   unfolding register_if register
-  registered-is =
-      go (eqb i names.held) refl
-      ∙ sym (ap (λ (b : Bool). cond b (register (header_of rules names p) name) (header_of rules names p)) (new_is (header_of rules names p) name a.index))
+  registered-is = go (is_new names name) refl
     where
-      go : (b : Bool) → eqb i names.held ≡ b → under_rules rules (cond b (register_if (named_of names p) name) (named_of names p))
+      go : (b : Bool) → is_new names name ≡ b → under_rules rules (cond b (register_if (named_of names p) name) (named_of names p))
           ≡ cond b (register (header_of rules names p) name) (header_of rules names p)
       go true e =
-          let k : i ≡ names.held = eqb-true i names.held e in
+          let k : slot names name ≡ names.held = eqb-true (slot names name) names.held e in
+          let q : i ≡ slot names name = a.index in
           simp (lt-ltb names.held 16 (let f : i < 16 = a.free in omega arith), le-leb (length name) 32 a.short)
       go false e = refl
 
   -- a warrior that passed the checks
   pub accepted-is : (origin : ℕ) {core' queue' : List ℕ} {names' : Roster} {p' p'' : Processes} {at count : ℕ}
-      → named_of names' p' ≡ cond (eqb i names.held) (register_if (named_of names p) name) (named_of names p)
+      → named_of names' p' ≡ cond (is_new names name) (register_if (named_of names p) name) (named_of names p)
       → core' ≡ placed_if core place (cells rules.size body)
       → at ≡ ahead rules.size place (origin_of origin)
       → queue_of queue' p'' ≡ start_if at i (queue_of queue p')
@@ -139,10 +138,8 @@ module _ (m : Machine) (name body : List ℕ) (place : ℕ) (e : first (tested_c
       }
 
   -- and under its index as it is found
-  pub accepted-so : (i : ℕ) → i ≡ cond (leb m.header.names.held 16) (slot m.header.names (called name)) m.header.names.held → Accepted m (called name) body place i
-  accepted-so i found =
-      let index : i ≡ slot m.header.names (called name) = found ∙ simp (le-leb m.header.names.held 16 accepted-called.few) in
-      subst (λ (k : ℕ). Accepted m (called name) body place k) (sym index) accepted-called
+  pub accepted-so : (i : ℕ) → i ≡ slot m.header.names (called name) → Accepted m (called name) body place i
+  accepted-so i index = subst (λ (k : ℕ). Accepted m (called name) body place k) (sym index) accepted-called
 
   pub loads : (origin : ℕ) {X : Given} → X ≡ given_by (loaded_if m (called name) body origin place) → X ≡ given_by (load_tested m name body origin place)
   unfolding load_tested

@@ -27,7 +27,8 @@ use Rattle.lent.specs.Parts.{start_if}
 use Rattle.lent.specs.Given.{given, given_by}
 use Rattle.queue.proofs.Rings.{inside, room}
 use Rattle.load_checks.specs.Refusal.{tested_checks}
-use Rattle.load_checks.proofs.Index.{slot-le, new_is}
+use Rattle.names.proofs.Naming.{slot-le}
+use Rattle.load_checks.proofs.Index.{new_is}
 use Rattle.warrior.specs.Tested.{placed_if, loaded_if, load_tested}
 use Rattle.warrior.specs.Inner.Accepted.{Accepted}
 use Rattle.warrior.proofs.Loading.{accepted-called}
@@ -50,7 +51,7 @@ module _ (m : Machine) (name body : List ℕ) (place i : ℕ) (a : Accepted m na
       go false e =
           let n : i ≡ m.header.names.held → ⊥ = eqb-false i m.header.names.held e in
           let d : i ≡ slot m.header.names name = a.index in
-          let l : slot m.header.names name ≤ m.header.names.held = slot-le m.header name in
+          let l : slot m.header.names name ≤ m.header.names.held = slot-le m.header.names name in
           let below : i < m.header.names.held = omega arith in
           let t = tested m sound in
           let s : total (take m.header.names.held m.header.counts) ≡ m.header.ring.length = t.sum in

@@ -1,9 +1,10 @@
 // A warrior loaded into the core (01, 'Load').
 #![tactic(auto)]
 
-ghost use Rattle.std.specs.Prelude.{◌≡◌, cond, eqb};
+ghost use Rattle.std.specs.Prelude.{◌≡◌, cond, ◌≤◌};
 ghost use Rattle.answer.specs.Numbers.{told};
 ghost use Rattle.machine.specs.Load as spec;
+ghost use Rattle.machine.specs.Names.{slot, is_new};
 ghost use Rattle.lent.specs.Parts.{named_of, parts, machine_of, register_if};
 ghost use Rattle.lent.specs.Given.{given, given_by, writes_of};
 ghost use Rattle.warrior.specs.Tested.{load_tested};
@@ -34,14 +35,19 @@ fn origin_of(origin: u16) -> u32
     origin as u32
 }
 
-// Registers a name whose index is the next free slot.
-fn registered(names: &mut Roster, processes: &mut Processes, i: u32, name: &[u8])
-    ensures { named_of names.new processes.new
-        ≡ cond (eqb i names.old.held) (register_if (named_of names.old processes.old) name.now) (named_of names.old processes.old) }
+// The slot of a name; one that is not held is registered in the next.
+fn slot_of(names: &mut Roster, processes: &mut Processes, name: &[u8]) -> u8
+    requires { names.old.held ≤ 16 }
+    ensures slot { result ≡ slot names.old name.now }
+    ensures named { named_of names.new processes.new
+        ≡ cond (is_new names.old name.now) (register_if (named_of names.old processes.old) name.now) (named_of names.old processes.old) }
 {
-    if i == names.held {
-        register(names, processes, name);
+    if let Some(i) = find(names, name) {
+        return i as u8;
     }
+    let next = names.held as u8;
+    register(names, processes, name);
+    next
 }
 
 // Loads a warrior into the parts of a record whose header was tested before, and does not test it again; gives its writes. An empty name is Warrior0.
@@ -58,11 +64,10 @@ pub fn load_parts(
 {
     refusal(queue, rules, names, processes, w)?;
     let name = called(w.name);
-    let i = find(names, name);
-    registered(names, processes, i, name);
+    let i = slot_of(names, processes, name);
     place_body(core, w.place as usize, w.body, rules.size);
     let at = add(Absolute(w.place), Relative(origin_of(w.origin)), rules.size);
-    start(queue, processes, at, i as u8);
+    start(queue, processes, at, i);
     Ok(len(w.body) as u64)
 }
 

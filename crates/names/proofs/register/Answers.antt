@@ -4,14 +4,14 @@ use Rattle.machine.specs.Names.{register}
 use Rattle.lent.specs.Parts.{named_of}
 use Rattle.names.proofs.Naming.{none_free, too_long, registered-is}
 use Rattle.names.proofs.register.Goals as goal
-use Rattle.names.proofs.register.Goals.{then-names-ge16-via-then-names-ge16, then-names-ge16-via-else-names-ge16+then-name-gt32}
+use Rattle.names.proofs.register.Goals.{then-names-ge-MOST_NAMES-via-then-names-ge-MOST_NAMES, then-names-ge-MOST_NAMES-via-else-names-ge-MOST_NAMES+then-name-gt-LONGEST}
 
-pub returns-then-names-ge16 : goal.returns-then-names-ge16
-returns-then-names-ge16 c =
+pub returns-then-names-ge-MOST_NAMES : goal.returns-then-names-ge-MOST_NAMES
+returns-then-names-ge-MOST_NAMES c =
     let h = named_of c.args.names.now c.args.processes.now in
-    elim c.then-names-ge16.branch [
-      | then-names-ge16-via-then-names-ge16 w ↦ none_free h c.args.name.now w.if-names-ge16.true
-      | then-names-ge16-via-else-names-ge16+then-name-gt32 w ↦ too_long h c.args.name.now w.if-name-gt32.true
+    elim c.then-names-ge-MOST_NAMES.branch [
+      | then-names-ge-MOST_NAMES-via-then-names-ge-MOST_NAMES w ↦ none_free h c.args.name.now w.if-names-ge-MOST_NAMES.true
+      | then-names-ge-MOST_NAMES-via-else-names-ge-MOST_NAMES+then-name-gt-LONGEST w ↦ too_long h c.args.name.now w.if-name-gt-LONGEST.true
     ]
 
 pub returns : goal.returns
