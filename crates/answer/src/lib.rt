@@ -27,7 +27,7 @@ pub enum Error {
 pub type Answer = Result<(), Error>;
 
 impl Error {
-    // Its number.
+    // Its number. No `From`: an error has two numbers, this and its value.
     pub fn number(self) -> u8
         ensures { result ≡ (told_error self).number }
     {

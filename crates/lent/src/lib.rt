@@ -6,7 +6,7 @@ ghost use Rattle.lent.specs.Parts.{processes_of, header_of};
 
 use machine::{Header, Processes, Roster, Rules};
 
-// What load and a step change of a header beside its names.
+// What load and a step change of a header beside its names. No `From`, which would stand in `machine`, and that crate has no functions.
 pub fn processes_of(h: Header) -> Processes
     ensures { result ≡ processes_of h }
 {
@@ -36,7 +36,7 @@ pub fn header_of(rules: Rules, names: Roster, processes: Processes) -> Header
     }
 }
 
-// The lengths of the header's arrays.
+// The lengths of the header's arrays, lent one by one: of an array that is a field behind a reference the check has no length.
 pub fn sized<'a>(
     names: &'a [u8; 512],
     lengths: &'a [u8; 16],

@@ -62,7 +62,7 @@ pub struct Entry {
     pub name: u8,
 }
 
-// What fresh, load, step and run give back: an answer, its writes and steps, and the header.
+// What fresh, load, step and run give back: an answer, its writes and steps, and the header. No Result: beside a refusal stand writes, steps and a header too.
 #[derive(Clone, Copy)]
 pub struct Outcome {
     pub answer: Answer,

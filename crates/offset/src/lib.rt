@@ -76,7 +76,7 @@ pub fn add(a: Absolute, r: Relative, size: u32) -> Absolute
     Absolute(ahead(a.0, r.0, size))
 }
 
-// The reduced sum of two field numbers.
+// The reduced sum of two field numbers. It is a twin of `add`, since 01 keeps places and field numbers apart.
 pub fn plus(a: Relative, b: Relative, size: u32) -> Relative
     ensures { result.0 ≡ cond (eqb size 0) 0 (ahead size a.0 b.0) }
 {

@@ -56,7 +56,7 @@ fn no_machine(error: Error) -> Outcome
     refuse(Err(error), blank(of_size(0)))
 }
 
-// A fresh machine: fresh cells, zeros in the queue memory, and its header.
+// A fresh machine: fresh cells, zeros in the queue memory, and its header. It tests what `soundness` tests of a header, but each for its own number.
 pub fn fresh(rules: Rules, core: &mut [u64], queue: &mut [u64]) -> Outcome
     ensures { given (told result.answer) result.writes result.steps (machine_of core.new queue.new result.header)
         ≡ given_by (spec.fresh rules core.old queue.old) }

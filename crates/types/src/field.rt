@@ -2,6 +2,7 @@
 
 use std::marker::Model;
 
+// The bits themselves are for `word::number`, which takes any.
 pub const A: u64 = 16;
 
 pub const B: u64 = 0;

@@ -1,4 +1,4 @@
-// The modes' numbers, in 01's order, # $ * @ { < } >, by their names in the Rust.
+// The modes' numbers, in 01's order, # $ * @ { < } >, by their names in the Rust. No enum: which kind a mode is of is told by its order, and the public functions take any number.
 
 pub const IMMEDIATE: u64 = 0;
 

@@ -1,4 +1,4 @@
-// The modifiers' numbers, in 01's order.
+// The modifiers' numbers, in 01's order. No enum: they are a table's indices, and the public functions take any number.
 
 pub const A: u8 = 0;
 

@@ -1,4 +1,4 @@
-// The opcodes' numbers, in 01's order.
+// The opcodes' numbers, in 01's order. No enum: 01 has a match over the numbers, and the public functions take any.
 
 pub const DAT: u64 = 0;
 
