@@ -68,7 +68,7 @@ fn keys_of(names: &Roster, held: usize) -> [u32; 16]
     ensures { Keyed names.now result held }
 {
     let mut keys: [u32; 16] = [0; 16];
-    // The checker knows nothing of what an enumerated `iter_mut` writes.
+    // By `array::from_fn` a header of 2 names takes 476 instructions, not 350; of an enumerated `iter_mut` the checker knows no writes.
     for i in 0..held {
         keys[i] = key_of(name_at(names, i));
     }
