@@ -1,7 +1,7 @@
 -- A name, byte by byte, and what a warrior is called.
 -- Assumes nothing.
-use mathlib.Core.Path.{◌≡◌, refl, ap}
-use mathlib.Core.Bool.{Bool, true, ◌&&◌}
+use mathlib.Core.Path.{◌≡◌, refl}
+use mathlib.Core.Bool.{true}
 use mathlib.Core.List.{List, [], ◌∷◌}
 use Prim.Native.Nat.{ℕ, ◌≤◌}
 use native.Mathlib.Omega.{arith}
@@ -10,13 +10,9 @@ use lib.Dec.{leb}
 use borrow.Author.Tests.{le-leb, leb-true}
 use Rattle.std.specs.List.{list_all}
 use Rattle.laws.specs.Lists.{every}
+use Rattle.laws.proofs.Every.{all-every}
 use Rattle.laws.proofs.Tests.{both}
 use Rattle.metadata.specs.Metadata.{valid_byte, valid_name, called}
-
--- every test passes, in the words of the library
-pub all-every : (p : ℕ → Bool) (xs : List ℕ) → list_all p xs ≡ every p xs
-all-every p [] = refl
-all-every p (x ∷ xs) = ap (λ (b : Bool). p x && b) (all-every p xs)
 
 -- a name of at most 32 bytes is valid where its bytes are
 pub short : (name : List ℕ) → length name ≤ 32 → list_all valid_byte name ≡ valid_name name

@@ -1,20 +1,20 @@
 -- What starting a process leaves, where there is room and where there is none.
 -- Assumes nothing.
-use mathlib.Core.Path.{◌≡◌}
-use mathlib.Core.Bool.{true, false, cond}
+use mathlib.Core.Path.{◌≡◌, sym, ap}
+use mathlib.Core.Bool.{Bool, true, false, cond, not, ◌&&◌}
 use mathlib.Core.List.{List}
 use Prim.Native.Nat.{ℕ, ◌+◌, ◌≤◌, ◌<◌}
 use native.Mathlib.Omega.{arith}
 use lib.Dec.{eqb}
 use lib.ListN.{length, get_or, set}
 use borrow.Author.Tests.{le-leb, lt-leb, lt-ltb, ltb-true, eq-eqb, ne_eqb}
-use Rattle.laws.proofs.Tests.{both, and-false}
+use Rattle.laws.proofs.Tests.{both, and-true, and-false}
 use Rattle.offset.specs.Offset.{ahead}
 use Rattle.offset.proofs.Offsets.{sum_is}
 use Rattle.machine.specs.declared.Processes.{Processes}
 use Rattle.machine.specs.State.{Machine}
 use Rattle.machine.specs.Names.{numbered}
-use Rattle.machine.specs.Queue.{packed_entry, entry, push, started}
+use Rattle.machine.specs.Queue.{full, packed_entry, entry, push, started}
 use Rattle.lent.specs.Parts.{queue_of, headed, has_room, start_if}
 
 module _ (m : Machine) where
@@ -23,6 +23,11 @@ module _ (m : Machine) where
 
   pub room : (i : ℕ) → headed m ≡ true → m.header.ring.length < length m.queue → i < 16 → (get_or m.header.counts i 0 ≡ 4294967295 → ⊥) → has_room m i ≡ true
   room i e l h n = simp (e, lt-leb _ _ l, lt-ltb _ _ h, ne_eqb _ _ n)
+
+  -- the tests of the code, for an index below 16
+  pub held-room : (i : ℕ) → i < 16 → {h f : Bool} → h ≡ headed m → f ≡ full m i → (h && not f && not (eqb (get_or m.header.counts i 0) 4294967295)) ≡ has_room m i
+  held-room i l eh ef =
+      rw (eh, ef, lt-ltb i 16 l) (ap (λ (b : Bool). b && not (eqb (get_or m.header.counts i 0) 4294967295)) (sym (and-true (headed m && not (full m i)))))
 
   some_slots : (i : ℕ) → has_room m i ≡ true → 0 < length m.queue
   some_slots i e =

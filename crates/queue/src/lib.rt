@@ -3,10 +3,10 @@
 
 ghost use Rattle.std.specs.Prelude.{◌≡◌, ℕ};
 ghost use Rattle.machine.specs.Queue as spec;
-ghost use Rattle.lent.specs.Parts.{queue_of, has_room, start_if};
+ghost use Rattle.lent.specs.Parts.{queue_of, headed, has_room, start_if};
 
 use entry::pack;
-use machine::limits::{LAST_NUMBER, MOST_ENTRIES};
+use machine::limits::{LAST_NUMBER, MOST_ENTRIES, MOST_NAMES};
 use machine::{Entry, Processes};
 use offset::{Absolute, ahead};
 
@@ -17,16 +17,23 @@ pub fn full(queue: &[u64], processes: &Processes) -> bool
     queue.len() <= processes.ring.length as usize
 }
 
+// Whether the ring lies in the memory: the head in it, and at most 65,535 entries.
+pub fn headed(queue: &[u64], processes: &Processes) -> bool
+    ensures { result ≡ headed (queue_of queue.now processes.now) }
+{
+    let slots = queue.len();
+    (slots <= MOST_ENTRIES) & ((processes.ring.head as usize) < slots)
+}
+
 // Whether the ring lies in the memory and has room for an entry of a name, whose count can rise.
 fn has_room(queue: &[u64], processes: &Processes, name: usize) -> bool
     ensures { result ≡ has_room (queue_of queue.now processes.now) name }
 {
-    let slots = queue.len();
-    slots <= MOST_ENTRIES
-        && (processes.ring.head as usize) < slots
-        && (processes.ring.length as usize) < slots
-        && name < 16
-        && processes.counts[name] != LAST_NUMBER
+    if name >= MOST_NAMES as usize {
+        return false;
+    }
+    let rises = processes.counts[name] != LAST_NUMBER;
+    headed(queue, processes) & !full(queue, processes) & rises
 }
 
 // Starts a process: an entry behind the last one, with its name's next thread number; count and number rise. Where there is no room it changes nothing.

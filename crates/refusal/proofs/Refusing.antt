@@ -1,13 +1,13 @@
 -- Laws of the refusal: what is told at each test.
 -- Assumes nothing.
 use mathlib.Core.Path.{◌≡◌, refl, sym, ap, ◌∙◌}
-use mathlib.Core.Bool.{Bool, true, false, not, ◌&&◌, ◌||◌}
+use mathlib.Core.Bool.{Bool, true, false, not, ◌||◌}
 use mathlib.Core.List.{List, [], ◌∷◌}
 use Prim.Native.Nat.{ℕ, ◌≤◌, ◌<◌}
 use lib.Dec.{eqb, leb, ltb}
 use lib.ListN.{length, get_or, drop}
 use borrow.Author.Tests.{leb-true}
-use Rattle.laws.proofs.Tests.{both, and_assoc}
+use Rattle.laws.proofs.Tests.{both}
 use Rattle.answer.specs.Numbers.{Told, gives}
 use Rattle.cell.specs.Cells.{sound_word}
 use Rattle.machine.specs.declared.Rules.{Rules}
@@ -17,10 +17,10 @@ use Rattle.machine.specs.Soundness.{valid_limits, fresh_checks, sound_front}
 use Rattle.machine.specs.Pointers.{site_at}
 use Rattle.machine.specs.Instruction.{fetched}
 use Rattle.machine.specs.Step.{popped, pc, site, next_checks}
-use Rattle.machine.proofs.Soundness.{is-taken, taken-tests, sound-entry}
+use Rattle.machine.proofs.Soundness.{is-taken, sound-entry}
 use Rattle.address.proofs.Evaluation.{over-private}
 use Rattle.refusal.specs.Inner.Looking.{cell_checks}
-use Rattle.refusal.specs.Inner.Fronts.{bounded, front_checks}
+use Rattle.refusal.specs.Inner.Fronts.{front_checks}
 use Rattle.refusal.specs.Checks.{in_bounds, refused}
 
 -- three rows before others
@@ -49,13 +49,6 @@ module _ (rules : Rules) (core : List ℕ) (pc : ℕ) where
   module _ (s : sound_word size (get_or core pc 0) ≡ true) where
     pub private-cell : 16 < (fetched core pc).opcode → gives 10 0 ≡ there
     private-cell h = let p = over-private size core pc s h in simp (s, p)
-
--- the first test, number by number, told whether the limits are valid
-pub in-bounds-tests : (core queue : List ℕ) (rules : Rules) (head : ℕ) {limits : Bool} → limits ≡ valid_limits rules
-    → (leb 1 rules.size && leb rules.size 46341 && eqb rules.size (length core) && leb 1 (length queue) && leb (length queue) 65535 && limits && ltb head (length queue))
-    ≡ bounded core queue rules head
-in-bounds-tests core queue rules head e =
-    rw e (sym (ap (λ (b : Bool). b && ltb head (length queue)) (taken-tests rules core queue) ∙ simp and_assoc))
 
 -- the steps taken, or the name's next thread number, have come to their end
 abbrev worn : Machine → Bool

@@ -1,14 +1,14 @@
 -- The refusal of the next step, for any parts of a record (01, 'One step').
 -- Believed. Assumes nothing.
-use Rattle.std.specs.Prelude.{Bool, not, ◌&&◌, List, ◌∷◌, ltb, length}
+use Rattle.std.specs.Prelude.{Bool, not, List, ◌∷◌}
 use Rattle.answer.specs.Numbers.{Told}
-use Rattle.machine.specs.State.{Machine, Check, check, first, passes, verdict_told}
-use Rattle.machine.specs.Soundness.{fresh_checks}
+use Rattle.machine.specs.State.{Machine, Check, check, first, verdict_told}
 use Rattle.machine.specs.Step.{next_checks}
+use Rattle.soundness.specs.Bounds.{bounded}
 
 -- M, the memories' lengths and the limits are such as fresh takes, and the head lies in the queue memory: so no read leaves a memory
 abbrev pub in_bounds : Machine → Bool
-in_bounds m = passes (fresh_checks m.header.rules m.core m.queue) && ltb m.header.ring.head (length m.queue)
+in_bounds m = bounded m.core m.queue m.header.rules m.header.ring.head
 
 -- 9 where that is not so, then the order of a step after its header's 9
 abbrev pub refusal_checks : Machine → List Check

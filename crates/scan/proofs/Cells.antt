@@ -1,9 +1,8 @@
 -- The cells of a core looked at one by one, from i on.
 -- Assumes nothing.
-use Rattle.std.specs.List.{list_all}
-use mathlib.Core.Path.{◌≡◌, refl, ◌∙◌, sym, ap}
-use mathlib.Core.Bool.{Bool, true, ◌&&◌}
-use mathlib.Core.List.{List, [], ◌∷◌}
+use mathlib.Core.Path.{◌≡◌, ◌∙◌, sym, ap}
+use mathlib.Core.Bool.{true}
+use mathlib.Core.List.{List}
 use Prim.Native.Nat.{ℕ, ◌+◌, ◌<◌, ◌≤◌}
 use native.Mathlib.Omega.{arith}
 use lib.ListN.{length, get_or}
@@ -11,11 +10,6 @@ use lib.Seq.{take-length}
 use Rattle.laws.specs.Lists.{every, table}
 use Rattle.laws.proofs.Loops.{EveryFrom, every-further, every-over, take-table}
 use Rattle.cell.specs.Cells.{sound_word}
-
--- every test passes, in the words of the library
-pub all-every : (p : ℕ → Bool) (xs : List ℕ) → list_all p xs ≡ every p xs
-all-every p [] = refl
-all-every p (x ∷ xs) = ap (λ (b : Bool). p x && b) (all-every p xs)
 
 module _ (core : List ℕ) (size : ℕ) where
   abbrev pub SoundFrom : ℕ → Type 0

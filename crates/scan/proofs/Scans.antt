@@ -5,7 +5,7 @@ use mathlib.Core.Path.{◌≡◌, refl, sym, ap, ap₂, ◌∙◌}
 use mathlib.Core.Bool.{Bool, true, false, ◌&&◌}
 use mathlib.Core.List.{List, []}
 use Prim.Native.Nat.{ℕ, zero, suc, ◌≤◌}
-use lib.Dec.{eqb}
+use lib.Dec.{eqb, leb}
 use lib.ListN.{length, get_or, take}
 use Rattle.laws.specs.Lists.{every, tally, table}
 use Rattle.laws.proofs.Loops.{take-table}
@@ -15,7 +15,7 @@ use Rattle.machine.specs.declared.Rules.{Rules}
 use Rattle.machine.specs.State.{Machine}
 use Rattle.machine.specs.Queue.{slots, entries}
 use Rattle.machine.specs.Soundness.{sound_entry}
-use Rattle.lent.specs.Parts.{names_of, header_of, unnamed}
+use Rattle.lent.specs.Parts.{names_of, header_of, unnamed, headed}
 use Rattle.scan.proofs.Rounds.{named}
 use Rattle.scan.specs.Scanning.{in_range, sound_cells, sound_entries, entries_at, tallied, lasting, lasting_all, scanned}
 
@@ -66,6 +66,10 @@ module _ (queue : List ℕ) (rules : Rules) (held : ℕ) (p : Processes) where
       → {r : Bool} → r ≡ every (λ i. eqb (get_or p.counts i 0) (get_or t i 0)) (table (λ i. i) 0 held) → r ≡ (sound_entries lone && tallied lone)
   by-counts e t f g =
       g ∙ counts-tallied lone t (λ k. f k ∙ tallies-are k) ∙ sym (ap (λ (b : Bool). b && tallied lone) (sym tests-are ∙ e))
+
+-- the first test
+pub ranged : (m : Machine) {h b : Bool} → h ≡ headed m → (h && leb m.header.names.held 16) ≡ b → in_range m ≡ b
+ranged m e f = ap (λ (h : Bool). h && leb m.header.names.held 16) (sym e) ∙ f
 
 module _ (k : ℕ) (m : Machine) where
   regrouped : (r c e t l : Bool) → (r && c && e && t && l) ≡ (r && l && (e && t) && c)

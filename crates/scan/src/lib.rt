@@ -9,9 +9,10 @@ ghost use Rattle.scan.specs.Scanning.{sound_entries, tallied, lasting, scanned};
 
 use cell::sound;
 use entry::unpack;
-use machine::limits::{LAST_NUMBER, MOST_ENTRIES};
+use machine::limits::{LAST_NUMBER, MOST_NAMES};
 use machine::{Processes, Rules};
 use offset::ahead;
+use queue::headed;
 use soundness::sound_front;
 
 // Whether every cell is sound. A cell like the one before it needs no second look.
@@ -60,6 +61,7 @@ fn entries_tallied(queue: &[u64], rules: Rules, held: u32, processes: &Processes
     let slots = queue.len() as u32;
     let mut tallies: [u32; 16] = [0; 16];
     let mut slot = processes.ring.head;
+    // The ring may be any: one that is longer than its memory goes round more than once, as the memory's two slices joined would not.
     for _i in 0..processes.ring.length {
         let w = queue[slot as usize];
         if !sound_front(w, rules, held, processes) {
@@ -84,8 +86,7 @@ pub fn scan(
 ) -> bool
     ensures { result ≡ scanned steps (unnamed core.now queue.now rules held processes.now) }
 {
-    let slots = queue.len();
-    let fits = (slots <= MOST_ENTRIES) & ((processes.ring.head as usize) < slots) & (held <= 16);
+    let fits = headed(queue, processes) & (held <= MOST_NAMES);
     if !fits {
         return false;
     }

@@ -8,12 +8,14 @@ use Prim.Native.Nat.{ℕ, zero, suc, ◌+◌, ◌-◌, ◌≤◌, ◌<◌, zero-
 use native.Mathlib.Nat.{eq-or-lt_of_le}
 use native.Mathlib.Omega.{arith}
 use lib.Dec.{eqb}
-use lib.ListN.{length, get_or, set}
-use lib.Seq.{get_or-set_same, get_or-set_other}
-use mir.Val.{bool_byte}
+use lib.ListN.{length, get_or, set, take}
+use lib.Seq.{get_or-set_same, get_or-set_other, take-length}
 use borrow.Author.Tests.{eq-eqb}
-use Rattle.laws.specs.Lists.{one_if, tally, table, total, same}
+use Rattle.std.specs.List.{count_by}
+use Rattle.laws.specs.Lists.{tally, table, same}
 use Rattle.laws.proofs.Tests.{never}
+use Rattle.laws.proofs.Loops.{take-table}
+use Rattle.laws.proofs.Ranges.{tally-count}
 use Rattle.laws.proofs.Same.{same_true}
 use Rattle.machine.specs.declared.Roster.{Roster}
 use Rattle.machine.specs.Names.{name_at}
@@ -48,19 +50,12 @@ module _ (p : ℕ → Bool) (f : ℕ → ℕ) where
       (λ (q : i ≡ j). let r : 1 ≤ tally p (table f (suc i) n) = passes-once n (suc i) k e (omega arith) (omega arith) in rw (ap (λ (m : ℕ). p (f m)) q ∙ d) (omega arith))
       (λ m. let r : 2 ≤ tally p (table f (suc i) n) = passes-twice n (suc i) j k d e m g (omega arith) in omega arith) (eq-or-lt_of_le l)
 
--- a test as a number
-pub one-is : (t : Bool) → bool_byte t ≡ one_if t
-one-is true = refl
-one-is false = refl
-
-pub at_most_one : (t : Bool) → bool_byte t ≤ 1
-at_most_one true = omega arith
-at_most_one false = omega arith
-
--- a count is a sum of ones
-pub tally-total : (p : ℕ → Bool) (f : ℕ → ℕ) (n i : ℕ) → total (table (λ (k : ℕ). one_if (p (f k))) i n) ≡ tally p (table f i n)
-tally-total p f zero i = refl
-tally-total p f (suc n) i = ap (λ (k : ℕ). one_if (p (f i)) + k) (tally-total p f n (suc i))
+-- the keys counted one by one
+pub tally-of : (keys : List ℕ) (key : ℕ) → length keys ≡ 16 → count_by (λ (k : ℕ). eqb k key) keys ≡ times_in keys key
+unfolding times_in
+tally-of keys key e =
+    sym (tally-count (λ (k : ℕ). eqb k key) keys)
+    ∙ ap (tally (λ (k : ℕ). eqb k key)) (sym (take-length keys) ∙ ap (λ (n : ℕ). take n keys) e ∙ take-table 0 keys 16 (omega arith))
 
 -- a name whose key stands once is unlike those after it
 pub once-unlike : (names : Roster) (keys : List ℕ) (held i : ℕ) → Keyed names keys held → i < held → held ≤ 16 → times_in keys (get_or keys i 0) ≡ 1

@@ -7,13 +7,14 @@ ghost use Rattle.metadata.specs.Metadata.{valid_byte};
 ghost use Rattle.machine.specs.Names.{name_at, names};
 ghost use Rattle.machine.specs.Soundness.{sound_header, sound_entry};
 ghost use Rattle.lent.specs.Parts.{names_of, header_of, parts, valid_length};
+ghost use Rattle.soundness.specs.Bounds.{bounded};
 ghost use Rattle.soundness.specs.Inner.Keys.{key_of, Keyed, times_in};
 
 use encoding::byte;
 use entry::unpack;
 use fold::valid_limits;
-use machine::limits::{LARGEST_CORE, MOST_ENTRIES};
-use machine::{Processes, Roster, Rules};
+use machine::limits::{LARGEST_CORE, MOST_ENTRIES, MOST_NAMES};
+use machine::{Processes, Ring, Roster, Rules};
 use names::{equal, name_at};
 use offset::within;
 
@@ -30,9 +31,8 @@ fn bytes_valid(bytes: &[u8; 512], start: usize, size: usize) -> bool
     ensures { result ≡ every valid_byte (take size (drop start bytes.now)) }
 {
     let mut valid = true;
-    for j in 0..32 {
-        let b = bytes[start + j];
-        valid &= (size <= j) | ((33 <= b) & (b <= 126));
+    for (j, b) in bytes[start..start + 32].iter().enumerate() {
+        valid &= (size <= j) | ((33 <= *b) & (*b <= 126));
     }
     valid
 }
@@ -42,13 +42,7 @@ fn names_valid(names: &Roster, held: usize) -> bool
     requires { (held ≤ 16) × ((k : ℕ) → k < held → get_or names.now.lengths k 0 ≤ 32) }
     ensures { result ≡ every (every valid_byte) (table (name_at names.now) 0 held) }
 {
-    for i in 0..held {
-        let size = names.lengths[i] as usize;
-        if !bytes_valid(&names.bytes, 32 * i, size) {
-            return false;
-        }
-    }
-    true
+    (0..held).all(|i| bytes_valid(&names.bytes, 32 * i, names.lengths[i] as usize))
 }
 
 // The key of a name: its length, and its first byte, the last but one and the last.
@@ -74,6 +68,7 @@ fn keys_of(names: &Roster, held: usize) -> [u32; 16]
     ensures { Keyed names.now result held }
 {
     let mut keys: [u32; 16] = [0; 16];
+    // By `array::from_fn` a header of 2 names takes 476 instructions, not 350; of an enumerated `iter_mut` the checker knows no writes.
     for i in 0..held {
         keys[i] = key_of(name_at(names, i));
     }
@@ -84,11 +79,7 @@ fn keys_of(names: &Roster, held: usize) -> [u32; 16]
 fn times(keys: &[u32; 16], key: u32) -> u32
     ensures { result ≡ times_in keys.now key }
 {
-    let mut n: u32 = 0;
-    for j in 0..16 {
-        n += (keys[j] == key) as u32;
-    }
-    n
+    keys.iter().map(|k| (*k == key) as u32).sum()
 }
 
 // Whether a name is unlike those held after it: where its key stands once, no bytes are compared.
@@ -99,12 +90,8 @@ fn is_unlike(names: &Roster, keys: &[u32; 16], i: usize, held: usize) -> bool
     if times(keys, keys[i]) == 1 {
         return true;
     }
-    for j in i + 1..held {
-        if equal(name_at(names, i), name_at(names, j)) {
-            return false;
-        }
-    }
-    true
+    let name = name_at(names, i);
+    (i + 1..held).all(|j| !equal(name, name_at(names, j)))
 }
 
 // Whether no two names held are alike.
@@ -116,15 +103,10 @@ fn names_distinct(names: &Roster, held: usize) -> bool
         return true;
     }
     let keys = keys_of(names, held);
-    for i in 0..held {
-        if !is_unlike(names, &keys, i, held) {
-            return false;
-        }
-    }
-    true
+    (0..held).all(|i| is_unlike(names, &keys, i, held))
 }
 
-// The sum of the counts of at most 16 names.
+// The sum of the counts of at most 16 names. By `map` and `sum` the header of an imp takes 6 instructions more, of 151.
 fn total_of(counts: &[u32]) -> u64
     requires { length counts.now ≤ 16 }
     ensures { result ≡ total counts.now }
@@ -134,6 +116,21 @@ fn total_of(counts: &[u32]) -> u64
         sum += *count as u64;
     }
     sum
+}
+
+// Whether M, the limits and the memories' lengths are such as fresh takes, and the head lies in the queue memory.
+pub fn in_bounds(core: &[u64], queue: &[u64], rules: Rules, ring: Ring) -> bool
+    ensures { result ≡ bounded core.now queue.now rules ring.head }
+{
+    let slots = queue.len();
+    let limits = valid_limits(rules);
+    (1 <= rules.size)
+        & (rules.size <= LARGEST_CORE)
+        & (rules.size as usize == core.len())
+        & (1 <= slots)
+        & (slots <= MOST_ENTRIES)
+        & limits
+        & ((ring.head as usize) < slots)
 }
 
 // Whether a header is sound beside the core's and the queue's memory.
@@ -146,18 +143,10 @@ pub fn sound_header(
 ) -> bool
     ensures { result ≡ sound_header (parts core.now queue.now rules names.now processes.now) }
 {
-    let slots = queue.len();
     let ring = processes.ring;
-    let limits = valid_limits(rules);
-    let numbers = (1 <= rules.size)
-        & (rules.size <= LARGEST_CORE)
-        & (rules.size as usize == core.len())
-        & (1 <= slots)
-        & (slots <= MOST_ENTRIES)
-        & limits
-        & (ring.length as usize <= slots)
-        & ((ring.head as usize) < slots)
-        & (names.held <= 16);
+    let numbers = in_bounds(core, queue, rules, ring)
+        & (ring.length as usize <= queue.len())
+        & (names.held <= MOST_NAMES);
     if !numbers {
         return false;
     }

@@ -1,17 +1,12 @@
--- The first tests of a step: that the memories and the head are such as fresh takes, and the front entry's rows.
+-- The first tests of a step after its bounds: the front entry's rows.
 -- Inner. Assumes nothing.
-use Rattle.std.specs.Prelude.{ℕ, Bool, true, not, ◌&&◌, ◌||◌, ◌≡◌, List, [], ◌∷◌, eqb, ltb, length, get_or, Result, Ok, Err}
+use Rattle.std.specs.Prelude.{true, not, ◌||◌, ◌≡◌, List, [], ◌∷◌, eqb, get_or, Result, Ok, Err}
 use Rattle.answer.specs.declared.Error.{Error}
 use Rattle.answer.specs.Numbers.{told_error}
 use Rattle.machine.specs.declared.Entry.{Entry}
-use Rattle.machine.specs.declared.Rules.{Rules}
-use Rattle.machine.specs.State.{Machine, Check, check, accepted, refusal, first, passes}
-use Rattle.machine.specs.Soundness.{fresh_checks, sound_front}
+use Rattle.machine.specs.State.{Machine, Check, check, accepted, refusal, first}
+use Rattle.machine.specs.Soundness.{sound_front}
 use Rattle.machine.specs.Step.{popped}
-
--- `in_bounds` of these memories, rules and head
-abbrev pub bounded : List ℕ → List ℕ → Rules → ℕ → Bool
-bounded core queue rules head = passes (fresh_checks rules core queue) && ltb head (length queue)
 
 -- 7, 9 (front entry), 8
 abbrev pub front_checks : Machine → List Check

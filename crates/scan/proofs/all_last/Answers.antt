@@ -3,7 +3,7 @@ use Rattle.std.proofs.Common.{rules, ◌∙◌}
 use Rattle.std.proofs.lemmas.Iterator.{YieldsList-from_slice}
 use Rattle.std.proofs.lemmas.Iterator.Search.{all_from_yields_List}
 use borrow.Author.Tests.{tests}
-use Rattle.scan.proofs.Cells.{all-every}
+use Rattle.laws.proofs.Every.{all-every}
 use Rattle.scan.specs.Scanning.{lasting}
 use Rattle.scan.proofs.all_last.Goals as goal
 

@@ -2,7 +2,8 @@
 use mathlib.Core.Path.{sym, ap, ◌∙◌}
 use native.Mathlib.Omega.{arith}
 use lib.ListN.{drop, length-drop}
-use lib.Seq.{get_or-drop}
+use Prim.Native.Nat.{◌+◌, ◌-◌}
+use Rattle.std.proofs.lemmas.List.{get_or-take}
 use Rattle.laws.specs.Lists.{every}
 use Rattle.laws.proofs.Loops.{take-table}
 use Rattle.metadata.specs.Metadata.{valid_byte}
@@ -16,7 +17,7 @@ pub loop-j-preserved : goal.loop-j-preserved
 loop-j-preserved c =
     let k = c.loop-j in
     let a = c.args in
-    rw (← get_or-drop a.start a.bytes.now k.j 0) (found-further valid_byte (byte a.bytes.now a.start) a.size k.j k.valid k.invariant)
+    rw (get_or-take (a.start + 32 - a.start) (drop a.start a.bytes.now) k.j 0 (omega arith)) (found-further valid_byte (byte a.bytes.now a.start) a.size k.j k.valid k.invariant)
 
 pub returns : goal.returns
 returns c =

@@ -4,7 +4,7 @@ use Rattle.std.proofs.lemmas.Iterator.{YieldsList-from_slice}
 use Rattle.std.proofs.lemmas.Iterator.Search.{all_from_yields_List}
 use borrow.Author.Tests.{tests}
 use Rattle.lent.specs.Parts.{valid_length}
-use Rattle.metadata.proofs.Names.{all-every}
+use Rattle.laws.proofs.Every.{all-every}
 use Rattle.soundness.proofs.lengths_valid.Goals as goal
 
 pub returns : goal.returns

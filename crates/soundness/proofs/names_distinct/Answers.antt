@@ -1,17 +1,18 @@
 -- The goals of `soundness::names_distinct` that the check leaves.
-use mathlib.Core.Path.{sym, ◌∙◌}
-use Rattle.laws.proofs.Loops.{distinct-fails, distinct-further}
+use Rattle.std.proofs.Common.{rules, ℕ, ◌+◌, ◌-◌, ◌∙◌, eqb, arith}
+use Rattle.std.proofs.lemmas.Iterator.{YieldsList-from_range}
+use Rattle.std.proofs.lemmas.Iterator.Search.{all_from_yields_List}
+use mathlib.Core.Path.{refl}
+use borrow.Author.Tests.{tests}
+use Rattle.laws.specs.Lists.{tally, table, same}
+use Rattle.laws.proofs.Ranges.{unlike}
 use Rattle.machine.specs.Names.{name_at}
 use Rattle.soundness.proofs.names_distinct.Goals as goal
 
-pub returns-then-not-is_unlike : goal.returns-then-not-is_unlike
-returns-then-not-is_unlike c =
+pub returns : goal.returns
+returns c =
     let a = c.args in
-    distinct-fails (name_at a.names.now) a.held _ c.loop-i.invariant c.loop-i-test.true
-    (sym c.is_unlike.ensures ∙ c.if-not-is_unlike.true)
-
-pub loop-i-preserved : goal.loop-i-preserved
-loop-i-preserved c =
-    let a = c.args in
-    distinct-further (name_at a.names.now) a.held _ c.loop-i.invariant c.loop-i-test.true
-    (sym c.is_unlike.ensures ∙ c.if-not-is_unlike.false)
+    let name = name_at a.names.now in
+    all_from_yields_List (λ (i : ℕ). eqb (tally (same (name i)) (table name (i + 1) (a.held - (i + 1)))) 0) _ _ _ c.all.ensures.ran
+    (YieldsList-from_range 0 a.held a.held refl (omega arith)) (λ x b q k. search (rules, tests))
+    ∙ unlike name 0 a.held a.held (omega arith)

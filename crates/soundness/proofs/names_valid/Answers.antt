@@ -1,19 +1,18 @@
 -- The goals of `soundness::names_valid` that the check leaves.
-use mathlib.Core.Path.{sym, ◌∙◌}
+use Rattle.std.proofs.Common.{rules, ℕ, ◌∙◌, arith}
+use Rattle.std.proofs.lemmas.Iterator.{YieldsList-from_range}
+use Rattle.std.proofs.lemmas.Iterator.Search.{all_from_yields_List}
+use mathlib.Core.Path.{refl}
+use borrow.Author.Tests.{tests}
 use Rattle.laws.specs.Lists.{every}
-use Rattle.laws.proofs.Loops.{every-fails, every-further}
+use Rattle.laws.proofs.Ranges.{each}
 use Rattle.metadata.specs.Metadata.{valid_byte}
 use Rattle.machine.specs.Names.{name_at}
 use Rattle.soundness.proofs.names_valid.Goals as goal
 
-pub returns-then-not-bytes_valid : goal.returns-then-not-bytes_valid
-returns-then-not-bytes_valid c =
+pub returns : goal.returns
+returns c =
     let a = c.args in
-    every-fails (name_at a.names.now) (every valid_byte) a.held _
-    c.loop-i.invariant c.loop-i-test.true (sym c.bytes_valid.ensures ∙ c.if-not-bytes_valid.true)
-
-pub loop-i-preserved : goal.loop-i-preserved
-loop-i-preserved c =
-    let a = c.args in
-    every-further (name_at a.names.now) (every valid_byte) a.held _
-    c.loop-i.invariant c.loop-i-test.true (sym c.bytes_valid.ensures ∙ c.if-not-bytes_valid.false)
+    all_from_yields_List (λ (i : ℕ). every valid_byte (name_at a.names.now i)) _ _ _ c.all.ensures.ran
+    (YieldsList-from_range 0 a.held a.held refl (omega arith)) (λ x b q k. search (rules, tests))
+    ∙ each (name_at a.names.now) (every valid_byte) 0 a.held
