@@ -8,21 +8,25 @@ ghost use Rattle.steps.specs.Inner.Instruction.{Executable, answered};
 
 use crate::modifier::modifier;
 use crate::opcode::{Executed, opcode};
-use crate::operand::{a_operand, b_operand, changes};
+use crate::operand::{changes, one_operand};
 use crate::scene::Scene;
 use crate::setting::Setting;
 use chain::{Operands, evaluate};
 use machine::Rules;
 use offset::Absolute;
-use word::{a_mode, b_mode};
+use types::field::{A, B};
+use word::{a_mode, b_mode, number};
 
 // Both operands of the cell at PC, where both limits are M.
 fn whole_operands(core: &mut [u64], rules: Rules, pc: Absolute, here: u64) -> Operands
     requires { Executable rules core.old pc.0 here × Unlimited rules }
     ensures { (result ≡ operands_at (site_at rules pc.0) core.old) × (core.new ≡ (b_operand (site_at rules pc.0) core.old).core) }
 {
-    let a = a_operand(core, rules, pc, here);
-    let b = b_operand(core, rules, pc, here);
+    let n = number(here, A);
+    let a = one_operand(core, rules, pc, a_mode(here), n);
+    let again = core[pc.0 as usize];
+    let m = number(again, B);
+    let b = one_operand(core, rules, pc, b_mode(here), m);
     Operands {
         jump: a.pointer,
         ra: a.register,
