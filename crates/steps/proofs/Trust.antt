@@ -9,7 +9,7 @@ use native.Mathlib.Omega.{arith}
 use lib.Dec.{eqb, ltb}
 use borrow.Author.Tests.{eqb-true, lt-ltb, ltb-true, ltb-false}
 use Rattle.laws.proofs.Every.{◌and◌}
-use Rattle.answer.specs.Numbers.{Told, told, gives}
+use Rattle.answer.specs.Numbers.{Told, gives}
 use Rattle.machine.specs.State.{Machine, Outcome, Verdict, accepted, refusal, first, settle, verdict_told}
 use Rattle.machine.specs.Queue.{entries}
 use Rattle.machine.specs.Soundness.{sound_entry}

@@ -30,7 +30,7 @@ fn ran(answer: Answer, writes: u64, before: u32, processes: &Processes) -> Ran
     }
 }
 
-// Steps while steps taken are below a ceiling, up to the first answer not 0, where each can be refused by 10 only. The steps taken are those of the record, and no index.
+// Steps while steps taken are below a ceiling, up to the first answer not 0, where each can be refused by 10 only. The bound is compared with the steps taken, which a step raises: no range counts them.
 fn play(
     core: &mut [u64],
     queue: &mut [u64],
@@ -128,7 +128,7 @@ fn trusted_until(
     0
 }
 
-// Steps while steps taken are below the ceiling, up to the first answer not 0.
+// Steps while steps taken are below the ceiling, up to the first answer not 0. A call raises the steps taken by any number, so no range counts them here either; a call of `play` and one loop over single steps, apart, take 10 to 12 % more instructions in an outer step.
 pub(crate) fn run_loop(
     core: &mut [u64],
     queue: &mut [u64],
