@@ -12,6 +12,7 @@ use crate::operand::{changes, one_operand};
 use crate::scene::Scene;
 use crate::setting::Setting;
 use chain::{Operands, evaluate};
+use fold::unlimited;
 use machine::Rules;
 use offset::Absolute;
 use types::field::{A, B};
@@ -40,7 +41,7 @@ fn operands(core: &mut [u64], setting: Setting, pc: Absolute, here: u64) -> Oper
     requires { Executable setting.rules core.old pc.0 here }
     ensures { (result ≡ operands_at (site_at setting.rules pc.0) core.old) × (core.new ≡ (b_operand (site_at setting.rules pc.0) core.old).core) }
 {
-    if setting.whole {
+    if unlimited(setting.rules) {
         return whole_operands(core, setting.rules, pc, here);
     }
     evaluate(core, setting.rules, pc)

@@ -60,7 +60,10 @@ pub fn run_parts(
     run_loop(
         core,
         queue,
-        Setting::new(rules, names.held),
+        Setting {
+            rules,
+            held: names.held,
+        },
         processes,
         ceiling,
     )
