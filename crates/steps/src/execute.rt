@@ -10,7 +10,6 @@ use crate::modifier::modifier;
 use crate::opcode::{Executed, opcode};
 use crate::operand::{changes, one_operand};
 use crate::scene::Scene;
-use crate::setting::Setting;
 use chain::{Operands, evaluate};
 use fold::unlimited;
 use machine::Rules;
@@ -37,26 +36,26 @@ fn whole_operands(core: &mut [u64], rules: Rules, pc: Absolute, here: u64) -> Op
 }
 
 // Both operands of the cell at PC.
-fn operands(core: &mut [u64], setting: Setting, pc: Absolute, here: u64) -> Operands
-    requires { Executable setting.rules core.old pc.0 here }
-    ensures { (result ≡ operands_at (site_at setting.rules pc.0) core.old) × (core.new ≡ (b_operand (site_at setting.rules pc.0) core.old).core) }
+fn operands(core: &mut [u64], rules: Rules, pc: Absolute, here: u64) -> Operands
+    requires { Executable rules core.old pc.0 here }
+    ensures { (result ≡ operands_at (site_at rules pc.0) core.old) × (core.new ≡ (b_operand (site_at rules pc.0) core.old).core) }
 {
-    if unlimited(setting.rules) {
-        return whole_operands(core, setting.rules, pc, here);
+    if unlimited(rules) {
+        return whole_operands(core, rules, pc, here);
     }
-    evaluate(core, setting.rules, pc)
+    evaluate(core, rules, pc)
 }
 
 // Executes the cell at PC.
-pub(crate) fn execute(core: &mut [u64], setting: Setting, pc: Absolute, here: u64) -> Executed
-    requires { Executable setting.rules core.old pc.0 here }
-    ensures { (result ≡ answered (effect_at (site_at setting.rules pc.0) core.old).next (length (written_at (site_at setting.rules pc.0) core.old)))
-        × (core.new ≡ core_at (site_at setting.rules pc.0) core.old) }
+pub(crate) fn execute(core: &mut [u64], rules: Rules, pc: Absolute, here: u64) -> Executed
+    requires { Executable rules core.old pc.0 here }
+    ensures { (result ≡ answered (effect_at (site_at rules pc.0) core.old).next (length (written_at (site_at rules pc.0) core.old)))
+        × (core.new ≡ core_at (site_at rules pc.0) core.old) }
 {
-    let o = operands(core, setting, pc, here);
+    let o = operands(core, rules, pc, here);
     let writes = changes(a_mode(here)) + changes(b_mode(here));
     let scene = Scene {
-        size: setting.rules.size,
+        size: rules.size,
         modifier: modifier(here),
         pc,
         jump: o.jump,

@@ -52,7 +52,7 @@ fn play(
         if opcode(f.cell) > NOP {
             return ran(Err(Error::PrivateMemory), writes, before, processes);
         }
-        let s = step_once(core, queue, setting, processes, tail, f);
+        let s = step_once(core, queue, setting.rules, processes, tail, f);
         tail = s.tail;
         writes += s.writes;
         if s.answer.is_err() {
@@ -110,16 +110,9 @@ fn trusted_until(
 ) -> u64
     ensures { processes.now.steps < result → (result ≡ ceiling) × Scanned ceiling (unnamed core.now queue.now setting.rules setting.held processes.now) }
 {
-    let done = processes.steps as u64;
-    if ceiling < done {
-        return 0;
-    }
-    let steps = ceiling - done;
+    let steps = ceiling.saturating_sub(processes.steps as u64);
     let least = core.len() as u64 / 16 + processes.ring.length as u64 / 16;
-    if steps < least {
-        return 0;
-    }
-    if processes.ring.length == 0 {
+    if steps < least || processes.ring.length == 0 {
         return 0;
     }
     if scan(core, queue, setting.rules, setting.held, processes, steps) {
