@@ -121,7 +121,7 @@ fn trusted_until(
     0
 }
 
-// Steps while steps taken are below the ceiling, up to the first answer not 0. A call raises the steps taken by any number, so no range counts them here either; a call of `play` and one loop over single steps, apart, take 10 to 12 % more instructions in an outer step.
+// Steps while steps taken are below the ceiling, up to the first answer not 0. A call raises the steps taken by any number: no range counts them.
 pub(crate) fn run_loop(
     core: &mut [u64],
     queue: &mut [u64],
