@@ -96,7 +96,7 @@ fn pointer(pc: Absolute, mode: u64, folded: Relative, w: u64, limit: u32, size: 
     add(pc, fold_sum(folded, found, limit, size), size)
 }
 
-// Follows both chains of an operand, in the core that has another word at one place. A mode is a number below 8, asked here and of what is called: as a struct with that invariant it takes 19 lines more.
+// Follows both chains of an operand, in the core that has another word at one place. A mode is a number below 8, asked here and of what is called: as a struct with that invariant it takes 11 lines more, and no fewer proofs.
 fn follow(
     core: &[u64],
     rules: Rules,
