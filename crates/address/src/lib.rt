@@ -36,7 +36,7 @@ pub fn increment(n: Relative, size: u32) -> Relative
     Relative(0)
 }
 
-// The field that an indirect mode goes through.
+// The field that an indirect mode goes through. A mode is its number, as a cell has it, and any number is taken: a caller owes nothing.
 pub fn field_of(mode: u64) -> Field
     ensures { result ≡ field_through mode }
 {
@@ -46,7 +46,7 @@ pub fn field_of(mode: u64) -> Field
     Field::B
 }
 
-// The number that the pointer is made of: the one found, minus 1 for `{` and `<`.
+// The number that the pointer is made of: the one found, minus 1 for `{` and `<`. Of any mode, as above.
 pub fn aim(size: u32, mode: u64, found: Relative) -> Relative
     ensures { result.0 ≡ aimed (get_or spec.shifts mode spec.keeps) size found.0 }
 {

@@ -54,7 +54,7 @@ fn word_in(core: &[u64], place: Absolute, at: Absolute, word: u64) -> u64
     core[i]
 }
 
-// The word at the write location once the decrement is made.
+// The word at the write location once the decrement is made. Apart from `raised`, and no twin of refusal's `changed`: chains are followed between the two, and the word may be unsound.
 fn lowered(w: u64, size: u32, mode: u64) -> u64
     requires { (0 < size) × (mode < 8) }
     ensures { result ≡ word_before (get_or spec.shifts mode spec.keeps) size w (spec.field_of (get_or spec.reaches mode spec.here)) }
@@ -96,7 +96,7 @@ fn pointer(pc: Absolute, mode: u64, folded: Relative, w: u64, limit: u32, size: 
     add(pc, fold_sum(folded, found, limit, size), size)
 }
 
-// Follows both chains of an operand, in the core that has another word at one place.
+// Follows both chains of an operand, in the core that has another word at one place. A mode is a number below 8, asked here and of what is called: as a struct with that invariant it takes 11 lines more, and no fewer proofs.
 fn follow(
     core: &[u64],
     rules: Rules,
@@ -141,7 +141,7 @@ fn sound_chains(c: Chains, size: u32) -> bool
     sound(c.near, size) & sound(c.old, size) & sound(c.register, size) & sound(c.there, size)
 }
 
-// Whether the core has M cells, PC is one of them, and no limit is 0.
+// Whether the core has M cells, PC is one of them, and no limit is 0. That is all that keeps the chains inside the core: fewer tests than a header's.
 fn is_place(core: &[u64], rules: Rules, pc: Absolute) -> bool
     ensures { result ≡ is_place rules core.now pc.0 }
 {
@@ -189,7 +189,7 @@ fn met(here: u64, read: Absolute, write: Absolute) -> Absolute
     write
 }
 
-// Evaluates both operands of the instruction at PC: the A operand's change is made, then the B operand's.
+// Evaluates both operands of the instruction at PC: the A operand's change is made, then the B operand's. Zeros where PC is no place: a step has one always, and an Option would be unwrapped there.
 pub fn evaluate(core: &mut [u64], rules: Rules, pc: Absolute) -> Operands
     ensures { (result ≡ cond (is_place rules core.old pc.0) (operands_at (spec.site_at rules pc.0) core.old) nothing)
         × (core.new ≡ cond (is_place rules core.old pc.0) (b_operand (spec.site_at rules pc.0) core.old).core core.old) }

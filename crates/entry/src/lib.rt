@@ -7,7 +7,7 @@ ghost use Rattle.machine.specs.Queue.{packed_entry, unpacked_entry};
 use machine::Entry;
 use offset::Absolute;
 
-// The word of an entry.
+// The word of an entry. By shifts and masks, as 01 lays a word out; an entry may have any numbers, so each is masked.
 pub fn pack(e: Entry) -> u64
     ensures { result ≡ packed_entry e }
 {

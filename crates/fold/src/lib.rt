@@ -20,7 +20,7 @@ pub fn of_size(size: u32) -> Rules
     }
 }
 
-// Whether a limit divides the core's size; 0 divides none.
+// Whether a limit divides the core's size; 0 divides none. `is_multiple_of` has 0 divide 0, and asks for a division where the limit is M, the usual one.
 fn divides(limit: u32, size: u32) -> bool
     ensures { result ≡ sound.divides limit size }
 {
@@ -44,7 +44,7 @@ pub fn unlimited(rules: Rules) -> bool
     (rules.read == rules.size) & (rules.write == rules.size)
 }
 
-// A pointer, taken from PC, folded by a limit; 0 for a limit of 0.
+// A pointer, taken from PC, folded by a limit; 0 for a limit of 0, which no sound header has, so an Option would be for nothing. The sum of two numbers can pass 32 bits.
 fn folded(p: u64, limit: u32, size: u32) -> Relative
     ensures { result.0 ≡ cond (eqb limit 0) 0 (spec.fold limit size p) }
 {

@@ -1,7 +1,7 @@
 -- The names' bytes play no part in a step: a header that is ready is sound with some, and beside any with which it is sound a run goes the same way.
 -- Assumes nothing.
 use Rattle.std.specs.Prelude.{Some}
-use Prim.Native.Nat.{ℕ, zero, suc, ◌+◌, ◌-◌, ◌<◌}
+use Prim.Native.Nat.{ℕ, zero, suc, ◌-◌, ◌<◌}
 use mathlib.Core.Path.{◌≡◌, refl, sym, ap, subst, ◌∙◌}
 use mathlib.Core.Bool.{Bool, true, false, cond, ◌&&◌}
 use mathlib.Core.List.{List, [], ◌∷◌, ◌++◌}

@@ -1,12 +1,13 @@
 -- One round of each loop: a step that is played, and a call that plays one step or all.
 -- Assumes nothing.
 use mathlib.Core.Path.{◌≡◌, refl, sym, ap, subst, ◌∙◌}
-use mathlib.Core.Bool.{Bool, true, false, cond}
+use mathlib.Core.Bool.{Bool, true, false}
+use Rattle.std.specs.Prelude.{max}
 use Prim.Native.Nat.{ℕ, ◌+◌, ◌-◌, ◌*◌, ◌^◌, ◌≤◌, ◌<◌}
 use native.Mathlib.Nat.{add-zero}
 use native.Mathlib.Omega.{arith}
-use lib.Dec.{eqb}
-use borrow.Author.Tests.{eqb-true}
+use lib.Dec.{eqb, ltb}
+use borrow.Author.Tests.{eqb-true, ltb-true, ltb-false}
 use lib.ListN.{length, get_or}
 use Rattle.answer.specs.Numbers.{Told, told}
 use Rattle.std.specs.Prelude.{Err}
@@ -96,22 +97,22 @@ module _ {until : ℕ} {start m : Machine} {w tail : ℕ} (g : Round until start
               counted = omega arith;
             }
 
--- trusted until the ceiling is reached
-abbrev pub Trusting : ℕ → Machine → Bool → Type 0
-Trusting ceiling m trusted = m.header.steps < ceiling → trusted ≡ true → Scanned ceiling m
+-- where the next step is trusted, all are up to the ceiling
+abbrev pub Trusting : ℕ → ℕ → Machine → Type 0
+Trusting ceiling trusted m = m.header.steps < trusted → (trusted ≡ ceiling) × Scanned ceiling m
 
--- a call of the outer loop plays all steps up to the ceiling where the record is trusted, else one
-module _ {ceiling : ℕ} {start m : Machine} {w : ℕ} (g : Going ceiling start m w) (below : m.header.steps < ceiling) (trusted : Bool)
-    {t : Told} {sw ss : ℕ} {n : Machine} (played : given t sw ss n ≡ given_by (plays_of (cond trusted ceiling (m.header.steps + 1) - m.header.steps) m)) where
+-- a call of the outer loop plays all steps that the record is trusted for, else one
+module _ {ceiling : ℕ} {start m : Machine} {w : ℕ} (g : Going ceiling start m w) (below : m.header.steps < ceiling) {trusted : ℕ} (trusting : Trusting ceiling trusted m)
+    {t : Told} {sw ss : ℕ} {n : Machine} (played : given t sw ss n ≡ given_by (plays_of (max trusted (m.header.steps + 1) - m.header.steps) m)) where
   abbrev called : ℕ
-  called = cond trusted ceiling (m.header.steps + 1) - m.header.steps
+  called = max trusted (m.header.steps + 1) - m.header.steps
 
   inside : (m.header.steps + called ≤ ceiling) × (0 < called)
-  inside = go trusted
+  inside = (go (ltb m.header.steps trusted) refl, omega arith)
     where
-      go : (b : Bool) → (m.header.steps + (cond b ceiling (m.header.steps + 1) - m.header.steps) ≤ ceiling) × (0 < cond b ceiling (m.header.steps + 1) - m.header.steps)
-      go true = (omega arith, omega arith)
-      go false = (omega arith, omega arith)
+      go : (b : Bool) → ltb m.header.steps trusted ≡ b → m.header.steps + called ≤ ceiling
+      go true e = let h = ltb-true m.header.steps trusted e in let q = (trusting h).0 in omega arith
+      go false e = let h = ltb-false m.header.steps trusted e in omega arith
 
   pub call-writes : w + sw ≤ (n.header.steps - start.header.steps) * 3
   call-writes = few-writes g called inside.0 played
@@ -129,18 +130,15 @@ module _ {ceiling : ℕ} {start m : Machine} {w : ℕ} (g : Going ceiling start 
     pub call-rises : m.header.steps < n.header.steps
     call-rises = let r = reaches g called inside.0 played e in let s = inside.1 in omega arith
 
-    pub call-trusting : Trusting ceiling n trusted
-    call-trusting h z = absurd (let r = reaches g called inside.0 played e ∙ ap (λ (b : Bool). m.header.steps + (cond b ceiling (m.header.steps + 1) - m.header.steps)) z in omega arith)
+    pub call-trusting : Trusting ceiling trusted n
+    call-trusting h = absurd (let r = reaches g called inside.0 played e in omega arith)
 
 -- a refusal that was asked
-pub refused-call : (ceiling : ℕ) (m : Machine) → Ready m → {t : Told} {trusted : Bool} → (trusted ≡ false) × (given t 0 0 m ≡ given_by (step_of m))
-    → given t 0 (m.header.steps - m.header.steps) m ≡ given_by (plays_of (cond trusted ceiling (m.header.steps + 1) - m.header.steps) m)
-refused-call ceiling m r {t} p =
-    ap (λ (k : ℕ). given t 0 k m) (none m.header.steps) ∙ p.1 ∙ as-run m r ∙ ap (λ (k : ℕ). given_by (plays_of k m)) (one m.header.steps)
-    ∙ ap (λ (b : Bool). given_by (plays_of (cond b ceiling (m.header.steps + 1) - m.header.steps) m)) (sym p.0)
+pub refused-call : (trusted : ℕ) (m : Machine) → Ready m → {t : Told} → (ltb m.header.steps trusted ≡ false) × (given t 0 0 m ≡ given_by (step_of m))
+    → given t 0 (m.header.steps - m.header.steps) m ≡ given_by (plays_of (max trusted (m.header.steps + 1) - m.header.steps) m)
+refused-call trusted m r {t} p =
+    ap (λ (k : ℕ). given t 0 k m) (none m.header.steps) ∙ p.1 ∙ as-run m r
+    ∙ ap (λ (k : ℕ). given_by (plays_of k m)) (let h = ltb-false m.header.steps trusted p.0 in omega arith)
   where
     none : (k : ℕ) → k - k ≡ 0
     none k = omega arith
-
-    one : (k : ℕ) → 1 ≡ k + 1 - k
-    one k = omega arith

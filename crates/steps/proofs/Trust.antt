@@ -3,12 +3,13 @@
 use mathlib.Core.Path.{◌≡◌, refl, sym, ap, subst, ◌∙◌}
 use mathlib.Core.Bool.{Bool, true, false, cond, true≢false}
 use mathlib.Core.Logic.{◌⊎◌, inl, inr, ⊎_elim}
+use Rattle.std.specs.Prelude.{max}
 use Prim.Native.Nat.{ℕ, zero, suc, ◌+◌, ◌-◌, ◌<◌}
 use native.Mathlib.Omega.{arith}
-use lib.Dec.{eqb}
-use borrow.Author.Tests.{eqb-true, lt-ltb}
+use lib.Dec.{eqb, ltb}
+use borrow.Author.Tests.{eqb-true, lt-ltb, ltb-true, ltb-false}
 use Rattle.laws.proofs.Every.{◌and◌}
-use Rattle.answer.specs.Numbers.{Told, told, gives}
+use Rattle.answer.specs.Numbers.{Told, gives}
 use Rattle.machine.specs.State.{Machine, Outcome, Verdict, accepted, refusal, first, settle, verdict_told}
 use Rattle.machine.specs.Queue.{entries}
 use Rattle.machine.specs.Soundness.{sound_entry}
@@ -74,8 +75,8 @@ module _ (ceiling : ℕ) (m : Machine) (r : Ready m) where
               subst (λ (x : Machine). 0 < x.header.ring.length) at (step-leaves plain u.sound (ap (λ (o : Outcome). o.number) one ∙ z)),
             ))
 
--- the next step, asked whether it is refused unless the record is trusted
-module _ (ceiling : ℕ) (m : Machine) (r : Ready m) (trusted : Bool) (said : Told) (asked : said ≡ cond trusted (gives 0 0) (check.refused m)) where
+-- the next step, asked whether it is refused unless the record is trusted for it
+module _ (trusted : ℕ) (m : Machine) (r : Ready m) (said : Told) (asked : said ≡ cond (ltb m.header.steps trusted) (gives 0 0) (check.refused m)) where
   bounds-are : check.in_bounds m ≡ true
   bounds-are = let t = r.taken in let h = lt-ltb _ _ r.head in simp (t, h)
 
@@ -84,14 +85,16 @@ module _ (ceiling : ℕ) (m : Machine) (r : Ready m) (trusted : Bool) (said : To
   verdict-is = let w = bounds-are in simp w
 
   -- told 0: it is not
-  pub not-refused : eqb said.number 0 ≡ true → (trusted ≡ true → Scanned ceiling m) → Plays (cond trusted ceiling (m.header.steps + 1)) m
-  not-refused e s = go trusted s asked
+  pub not-refused : eqb said.number 0 ≡ true → (m.header.steps < trusted → Scanned trusted m) → Plays (max trusted (m.header.steps + 1)) m
+  not-refused e s = go (ltb m.header.steps trusted) refl asked
     where
-      go : (t : Bool) → (t ≡ true → Scanned ceiling m) → said ≡ cond t (gives 0 0) (check.refused m) → Plays (cond t ceiling (m.header.steps + 1)) m
-      go true s a = inl (s refl)
-      go false s a =
+      go : (t : Bool) → ltb m.header.steps trusted ≡ t → said ≡ cond t (gives 0 0) (check.refused m) → Plays (max trusted (m.header.steps + 1)) m
+      go true q a =
+          let h = ltb-true m.header.steps trusted q in
+          let f : trusted ≡ max trusted (m.header.steps + 1) = omega arith in inl (subst (λ (u : ℕ). Scanned u m) f (s h))
+      go false q a =
           inr (
-            refl,
+            let h = ltb-false m.header.steps trusted q in omega arith,
             record {
               only = λ n v f.
                   let z : n ≡ 0 = sym (ap (λ (t : Told). t.number) (a ∙ verdict-is ∙ ap verdict_told f)) ∙ eqb-true said.number 0 e in
@@ -101,14 +104,14 @@ module _ (ceiling : ℕ) (m : Machine) (r : Ready m) (trusted : Bool) (said : To
             },
           )
 
-  pub is-refused : eqb said.number 0 ≡ false → (trusted ≡ false) × (given said 0 0 m ≡ given_by (step_of m))
+  pub is-refused : eqb said.number 0 ≡ false → (ltb m.header.steps trusted ≡ false) × (given said 0 0 m ≡ given_by (step_of m))
   unfolding step_of
-  is-refused e = go trusted refl asked
+  is-refused e = go (ltb m.header.steps trusted) refl asked
     where
       settled : (v : Verdict) → first (next_checks m) ≡ v → said ≡ verdict_told v → given said 0 0 m ≡ given_by (settle v m (executed m))
       settled accepted f t = absurd (true≢false (sym (ap (λ (k : Told). eqb k.number 0) t) ∙ e))
       settled (refusal n v) f t = ap (λ (k : Told). given k 0 0 m) t
 
-      go : (t : Bool) → trusted ≡ t → said ≡ cond t (gives 0 0) (check.refused m) → (trusted ≡ false) × (given said 0 0 m ≡ given_by (settle (first (next_checks m)) m (executed m)))
+      go : (t : Bool) → ltb m.header.steps trusted ≡ t → said ≡ cond t (gives 0 0) (check.refused m) → (ltb m.header.steps trusted ≡ false) × (given said 0 0 m ≡ given_by (settle (first (next_checks m)) m (executed m)))
       go true f a = absurd (true≢false (sym (ap (λ (k : Told). eqb k.number 0) a) ∙ e))
       go false f a = (f, settled (first (next_checks m)) refl (a ∙ verdict-is))

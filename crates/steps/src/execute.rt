@@ -8,21 +8,25 @@ ghost use Rattle.steps.specs.Inner.Instruction.{Executable, answered};
 
 use crate::modifier::modifier;
 use crate::opcode::{Executed, opcode};
-use crate::operand::{a_operand, b_operand, changes};
+use crate::operand::{changes, one_operand};
 use crate::scene::Scene;
-use crate::setting::Setting;
 use chain::{Operands, evaluate};
+use fold::unlimited;
 use machine::Rules;
 use offset::Absolute;
-use word::{a_mode, b_mode};
+use types::field::{A, B};
+use word::{a_mode, b_mode, number};
 
-// Both operands of the cell at PC, where both limits are M.
+// Both operands of the cell at PC, where both limits are M. By `evaluate`, which takes any limits, a step of a run takes 2.4 to 3 times as many instructions.
 fn whole_operands(core: &mut [u64], rules: Rules, pc: Absolute, here: u64) -> Operands
     requires { Executable rules core.old pc.0 here × Unlimited rules }
     ensures { (result ≡ operands_at (site_at rules pc.0) core.old) × (core.new ≡ (b_operand (site_at rules pc.0) core.old).core) }
 {
-    let a = a_operand(core, rules, pc, here);
-    let b = b_operand(core, rules, pc, here);
+    let n = number(here, A);
+    let a = one_operand(core, rules, pc, a_mode(here), n);
+    let again = core[pc.0 as usize];
+    let m = number(again, B);
+    let b = one_operand(core, rules, pc, b_mode(here), m);
     Operands {
         jump: a.pointer,
         ra: a.register,
@@ -32,26 +36,26 @@ fn whole_operands(core: &mut [u64], rules: Rules, pc: Absolute, here: u64) -> Op
 }
 
 // Both operands of the cell at PC.
-fn operands(core: &mut [u64], setting: Setting, pc: Absolute, here: u64) -> Operands
-    requires { Executable setting.rules core.old pc.0 here }
-    ensures { (result ≡ operands_at (site_at setting.rules pc.0) core.old) × (core.new ≡ (b_operand (site_at setting.rules pc.0) core.old).core) }
+fn operands(core: &mut [u64], rules: Rules, pc: Absolute, here: u64) -> Operands
+    requires { Executable rules core.old pc.0 here }
+    ensures { (result ≡ operands_at (site_at rules pc.0) core.old) × (core.new ≡ (b_operand (site_at rules pc.0) core.old).core) }
 {
-    if setting.whole {
-        return whole_operands(core, setting.rules, pc, here);
+    if unlimited(rules) {
+        return whole_operands(core, rules, pc, here);
     }
-    evaluate(core, setting.rules, pc)
+    evaluate(core, rules, pc)
 }
 
 // Executes the cell at PC.
-pub(crate) fn execute(core: &mut [u64], setting: Setting, pc: Absolute, here: u64) -> Executed
-    requires { Executable setting.rules core.old pc.0 here }
-    ensures { (result ≡ answered (effect_at (site_at setting.rules pc.0) core.old).next (length (written_at (site_at setting.rules pc.0) core.old)))
-        × (core.new ≡ core_at (site_at setting.rules pc.0) core.old) }
+pub(crate) fn execute(core: &mut [u64], rules: Rules, pc: Absolute, here: u64) -> Executed
+    requires { Executable rules core.old pc.0 here }
+    ensures { (result ≡ answered (effect_at (site_at rules pc.0) core.old).next (length (written_at (site_at rules pc.0) core.old)))
+        × (core.new ≡ core_at (site_at rules pc.0) core.old) }
 {
-    let o = operands(core, setting, pc, here);
+    let o = operands(core, rules, pc, here);
     let writes = changes(a_mode(here)) + changes(b_mode(here));
     let scene = Scene {
-        size: setting.rules.size,
+        size: rules.size,
         modifier: modifier(here),
         pc,
         jump: o.jump,

@@ -24,7 +24,7 @@ mod scene;
 mod setting;
 mod stepping;
 
-// What a run answers, with its writes and steps.
+// What a run answers, with its writes and steps. Both stand beside a refusal too, so the answer is a field: a Result has no place for them.
 #[derive(Clone, Copy)]
 pub struct Ran {
     pub answer: Answer,
@@ -60,7 +60,10 @@ pub fn run_parts(
     run_loop(
         core,
         queue,
-        Setting::new(rules, names.held),
+        Setting {
+            rules,
+            held: names.held,
+        },
         processes,
         ceiling,
     )

@@ -13,7 +13,7 @@ use entry::{pack, unpack};
 use machine::{Entry, Processes};
 use offset::Absolute;
 
-// What a step answers, with its writes, and the tail afterwards.
+// What a step answers, with its writes, and the tail afterwards. Both stand beside a refusal too, so the answer is a field: a Result has no place for them.
 #[derive(Clone, Copy)]
 pub(crate) struct Stepped {
     pub answer: Answer,
@@ -42,7 +42,7 @@ fn push(queue: &mut [u64], tail: u32, w: u64) -> u32
     slot_after(tail, queue.len() as u32)
 }
 
-// SPL's child is started, where there is room: the tail afterwards.
+// SPL's child is started, where there is room: the tail afterwards. By `queue::start`, which tests for room in the memory and finds the tail anew, a step of a battle with SPL takes 5 % more instructions.
 fn start_child(
     queue: &mut [u64],
     processes: &mut Processes,

@@ -1,5 +1,5 @@
 // The run loop on the lent parts of a record whose header is sound, without its names (01, 'One step', its last paragraph).
-ghost use Rattle.std.specs.Prelude.{◌≡◌, true, cond, ◌+◌, ◌-◌, ◌≤◌};
+ghost use Rattle.std.specs.Prelude.{◌≡◌, cond, ◌+◌, ◌-◌, ◌≤◌, ◌<◌, ltb, max};
 ghost use Rattle.answer.specs.Numbers.{told, gives};
 ghost use Rattle.refusal.specs.Checks as check;
 ghost use Rattle.lent.specs.Parts.{unnamed};
@@ -30,7 +30,7 @@ fn ran(answer: Answer, writes: u64, before: u32, processes: &Processes) -> Ran
     }
 }
 
-// Steps while steps taken are below a ceiling, up to the first answer not 0, where each can be refused by 10 only. The steps taken are those of the record, and no index.
+// Steps while steps taken are below a ceiling, up to the first answer not 0, where each can be refused by 10 only. The bound is compared with the steps taken, which a step raises: no range counts them.
 fn play(
     core: &mut [u64],
     queue: &mut [u64],
@@ -52,7 +52,7 @@ fn play(
         if opcode(f.cell) > NOP {
             return ran(Err(Error::PrivateMemory), writes, before, processes);
         }
-        let s = step_once(core, queue, setting, processes, tail, f);
+        let s = step_once(core, queue, setting.rules, processes, tail, f);
         tail = s.tail;
         writes += s.writes;
         if s.answer.is_err() {
@@ -62,81 +62,66 @@ fn play(
     ran(Ok(()), writes, before, processes)
 }
 
-// The refusal of the next step: 0, and not asked, where the record is trusted.
+// The refusal of the next step: 0, and not asked, where the record is trusted for it.
 fn asked(
     core: &[u64],
     queue: &[u64],
     setting: Setting,
     processes: &Processes,
-    trusted: bool,
+    trusted: u64,
 ) -> Answer
-    ensures { told result ≡ cond trusted (gives 0 0) (check.refused (unnamed core.now queue.now setting.rules setting.held processes.now)) }
+    ensures { told result ≡ cond (ltb processes.now.steps trusted) (gives 0 0) (check.refused (unnamed core.now queue.now setting.rules setting.held processes.now)) }
 {
-    if trusted {
+    if (processes.steps as u64) < trusted {
         return Ok(());
     }
     refusal(core, queue, setting.rules, setting.held, processes)
 }
 
-// Up to which number of steps taken to play.
-fn limit(ceiling: u64, taken: u32, trusted: bool) -> u64
-    ensures { result ≡ cond trusted ceiling (taken + 1) }
-{
-    if trusted {
-        return ceiling;
-    }
-    taken as u64 + 1
-}
-
-// The steps up to the ceiling where the record is trusted; else the next step, its refusal asked first.
+// The steps that the record is trusted for; else the next step, its refusal asked first.
 fn ask(
     core: &mut [u64],
     queue: &mut [u64],
     setting: Setting,
     processes: &mut Processes,
-    ceiling: u64,
-    trusted: bool,
+    trusted: u64,
 ) -> Ran
     requires { Ready (unnamed core.old queue.old setting.rules setting.held processes.old)
-        × (trusted ≡ true → Scanned ceiling (unnamed core.old queue.old setting.rules setting.held processes.old)) }
+        × (processes.old.steps < trusted → Scanned trusted (unnamed core.old queue.old setting.rules setting.held processes.old)) }
     ensures counted { processes.new.steps ≤ 4294967295 }
     ensures plays { given (told result.answer) result.writes result.steps (unnamed core.new queue.new setting.rules setting.held processes.new)
-        ≡ given_by (plays_of (cond trusted ceiling (processes.old.steps + 1) - processes.old.steps) (unnamed core.old queue.old setting.rules setting.held processes.old)) }
+        ≡ given_by (plays_of (max trusted (processes.old.steps + 1) - processes.old.steps) (unnamed core.old queue.old setting.rules setting.held processes.old)) }
 {
     let answer = asked(core, queue, setting, processes, trusted);
     if answer.is_err() {
         return ran(answer, 0, processes.steps, processes);
     }
-    let until = limit(ceiling, processes.steps, trusted);
+    let until = trusted.max(processes.steps as u64 + 1);
     play(core, queue, setting, processes, until)
 }
 
-// Whether a scan of the whole record pays, and the record passes it.
-fn trusts(
+// Up to how many steps taken the record is trusted: the ceiling where a scan of the whole record pays and the record passes it, else 0.
+fn trusted_until(
     core: &[u64],
     queue: &[u64],
     setting: Setting,
     processes: &Processes,
     ceiling: u64,
-) -> bool
-    ensures { result ≡ true → Scanned ceiling (unnamed core.now queue.now setting.rules setting.held processes.now) }
+) -> u64
+    ensures { processes.now.steps < result → (result ≡ ceiling) × Scanned ceiling (unnamed core.now queue.now setting.rules setting.held processes.now) }
 {
-    let done = processes.steps as u64;
-    if ceiling < done {
-        return false;
-    }
-    let steps = ceiling - done;
+    let steps = ceiling.saturating_sub(processes.steps as u64);
     let least = core.len() as u64 / 16 + processes.ring.length as u64 / 16;
-    if steps < least {
-        return false;
+    if steps < least || processes.ring.length == 0 {
+        return 0;
     }
-    if processes.ring.length == 0 {
-        return false;
+    if scan(core, queue, setting.rules, setting.held, processes, steps) {
+        return ceiling;
     }
-    scan(core, queue, setting.rules, setting.held, processes, steps)
+    0
 }
 
-// Steps while steps taken are below the ceiling, up to the first answer not 0.
+// Steps while steps taken are below the ceiling, up to the first answer not 0. A call raises the steps taken by any number: no range counts them.
 pub(crate) fn run_loop(
     core: &mut [u64],
     queue: &mut [u64],
@@ -148,11 +133,11 @@ pub(crate) fn run_loop(
     ensures { given (told result.answer) result.writes result.steps (unnamed core.new queue.new setting.rules setting.held processes.new)
         ≡ given_by (plays_of (ceiling - processes.old.steps) (unnamed core.old queue.old setting.rules setting.held processes.old)) }
 {
-    let trusted = trusts(core, queue, setting, processes, ceiling);
+    let trusted = trusted_until(core, queue, setting, processes, ceiling);
     let before = processes.steps;
     let mut writes: u64 = 0;
     while (processes.steps as u64) < ceiling {
-        let s = ask(core, queue, setting, processes, ceiling, trusted);
+        let s = ask(core, queue, setting, processes, trusted);
         writes += s.writes;
         if s.answer.is_err() {
             return ran(s.answer, writes, before, processes);

@@ -3,7 +3,7 @@ ghost use Rattle.steps.specs.Inner.Scenes.{SoundScene};
 
 use offset::Absolute;
 
-// The core's size, the instruction's modifier, PC, where the A operand points, both registers, and the writes made so far.
+// The core's size, the instruction's modifier, PC, where the A operand points, both registers, and the writes made so far. The modifier is its number, the row of a table.
 #[derive(Clone, Copy)]
 pub(crate) struct Scene {
     pub size: u32,

@@ -12,9 +12,8 @@ ghost use Rattle.steps.specs.Inner.Queueing.{Front, tail_of};
 
 use crate::execute::execute;
 use crate::ring::{Stepped, requeue};
-use crate::setting::Setting;
 use entry::unpack;
-use machine::Processes;
+use machine::{Processes, Rules};
 
 // The front entry and the cell at its place.
 #[derive(Clone, Copy)]
@@ -37,19 +36,19 @@ pub(crate) fn fetch(core: &[u64], queue: &[u64], head: u32) -> Fetched
 pub(crate) fn step_once(
     core: &mut [u64],
     queue: &mut [u64],
-    setting: Setting,
+    rules: Rules,
     processes: &mut Processes,
     tail: u32,
     fetched: Fetched,
 ) -> Stepped
     requires { Front (queue_of queue.old processes.old) tail × (fetched.entry ≡ get_or queue.old processes.old.ring.head 0)
-        × Executable setting.rules core.old (unpacked_entry (get_or queue.old processes.old.ring.head 0)).place.0 fetched.cell × (processes.old.steps < 4294967295) }
-    ensures { ((names : Roster) → given (told result.answer) result.writes 1 (parts core.new queue.new setting.rules names processes.new)
-        ≡ given_by (spec.executed (parts core.old queue.old setting.rules names processes.old)))
+        × Executable rules core.old (unpacked_entry (get_or queue.old processes.old.ring.head 0)).place.0 fetched.cell × (processes.old.steps < 4294967295) }
+    ensures { ((names : Roster) → given (told result.answer) result.writes 1 (parts core.new queue.new rules names processes.new)
+        ≡ given_by (spec.executed (parts core.old queue.old rules names processes.old)))
         × (result.tail ≡ tail_of (queue_of queue.new processes.new)) }
 {
     let w = fetched.entry;
-    let executed = execute(core, setting, unpack(w).place, fetched.cell);
+    let executed = execute(core, rules, unpack(w).place, fetched.cell);
     processes.steps += 1;
     requeue(queue, processes, tail, w, executed)
 }

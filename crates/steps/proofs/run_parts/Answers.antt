@@ -17,8 +17,7 @@ run_loop-requires c =
     let a = c.args in
     let m = parts a.core.now a.queue.now a.rules a.names.now a.processes.now in
     let sound = is-sound m (sym c.sound_header.ensures ∙ c.if-not-sound_header.false) c.sized.ensures in
-    rw (c.new.ensures.0, c.new.ensures.1)
-    (unnamed-ready (unnamed a.core.now a.queue.now a.rules a.names.now.held a.processes.now) a.names.now.bytes a.names.now.lengths (sound-ready m sound))
+    unnamed-ready (unnamed a.core.now a.queue.now a.rules a.names.now.held a.processes.now) a.names.now.bytes a.names.now.lengths (sound-ready m sound)
 
 pub returns : goal.returns
 returns c =
@@ -26,6 +25,5 @@ returns c =
     let m = parts a.core.now a.queue.now a.rules a.names.now a.processes.now in
     let sound = is-sound m (sym c.sound_header.ensures ∙ c.if-not-sound_header.false) c.sized.ensures in
     let lent = unnamed a.core.now a.queue.now a.rules a.names.now.held a.processes.now in
-    let ran = rw (c.new.ensures.0, c.new.ensures.1) at c.run_loop.ensures in
-    ap (λ (x : Given). given x.told x.writes x.steps (naming a.names.now.bytes a.names.now.lengths x.machine)) ran
+    ap (λ (x : Given). given x.told x.writes x.steps (naming a.names.now.bytes a.names.now.lengths x.machine)) c.run_loop.ensures
     ∙ sym (ap given_by (run-named a.names.now.bytes a.names.now.lengths a.ceiling lent sound))

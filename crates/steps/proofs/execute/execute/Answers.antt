@@ -6,14 +6,14 @@ use Rattle.steps.proofs.execute.execute.Goals as goal
 
 pub bounds-core-o : goal.bounds-core-o
 bounds-core-o c =
-    let a = c.args in target-inside a.setting.rules a.core.now a.pc.0 a.here c.requires _ _ c.operands-o.ensures
+    let a = c.args in target-inside a.rules a.core.now a.pc.0 a.here c.requires _ _ c.operands-o.ensures
 
 pub invariant_of-scene : goal.invariant_of-scene
 invariant_of-scene c =
     let a = c.args in
     record {
       sound = rw c.modifier.ensures
-          (scene-sound a.setting.rules a.core.now a.pc.0 a.here c.requires _ _ c.operands-o.ensures
+          (scene-sound a.rules a.core.now a.pc.0 a.here c.requires _ _ c.operands-o.ensures
           c.a_mode.ensures c.b_mode.ensures c.changes.ensures c.changes-2.ensures);
     }
 
@@ -23,12 +23,12 @@ opcode-requires c = (sound-fields _ c.args.here c.requires.cell.sound).0
 pub act-requires : goal.act-requires
 act-requires c =
     let a = c.args in (
-      target-sound a.setting.rules a.core.now a.pc.0 a.here c.requires _ _ c.operands-o.ensures,
+      target-sound a.rules a.core.now a.pc.0 a.here c.requires _ _ c.operands-o.ensures,
       rw c.opcode.ensures c.requires.few,
     )
 
 pub returns : goal.returns
 returns c =
     let a = c.args in
-    done a.setting.rules a.core.now a.pc.0 a.here c.requires _ _ c.operands-o.ensures
+    done a.rules a.core.now a.pc.0 a.here c.requires _ _ c.operands-o.ensures
     c.a_mode.ensures c.b_mode.ensures c.changes.ensures c.changes-2.ensures (refl, c.modifier.ensures, refl, refl, refl, refl, refl, refl) c.opcode.ensures _ _ c.act.ensures

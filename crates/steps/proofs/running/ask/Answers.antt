@@ -13,14 +13,14 @@ returns-then-is_err-clause-plays c =
     let a = c.args in
     let m = unnamed a.core.now a.queue.now a.setting.rules a.setting.held a.processes.now in
     giving _ _ c.ran.ensures
-    (refused-call a.ceiling m c.requires.0
-    (is-refused a.ceiling m c.requires.0 a.trusted _ c.asked-answer.ensures (failed _ (sym c.is_err.ensures.value ∙ c.if-is_err.true))))
+    (refused-call a.trusted m c.requires.0
+    (is-refused a.trusted m c.requires.0 _ c.asked-answer.ensures (failed _ (sym c.is_err.ensures.value ∙ c.if-is_err.true))))
 
 pub play-requires : goal.play-requires
 play-requires c =
     let a = c.args in
     let m = unnamed a.core.now a.queue.now a.setting.rules a.setting.held a.processes.now in (
       c.requires.0,
-      subst (λ (u : ℕ). Plays u m) (sym c.limit-until.ensures)
-          (not-refused a.ceiling m c.requires.0 a.trusted _ c.asked-answer.ensures (went _ (sym c.is_err.ensures.value ∙ c.if-is_err.false)) c.requires.1),
+      subst (λ (u : ℕ). Plays u m) (sym c.max-until.ensures)
+          (not-refused a.trusted m c.requires.0 _ c.asked-answer.ensures (went _ (sym c.is_err.ensures.value ∙ c.if-is_err.false)) c.requires.1),
     )
