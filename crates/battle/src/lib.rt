@@ -22,7 +22,7 @@ pub fn play(file: &[u8], out: &mut [u8; TEXT_SIZE]) -> usize
     }
 }
 
-// Plays a match file, and writes to standard output what is to be printed; whether all of it was taken.
+// Plays a match file, and writes to standard output what is to be printed; whether all of it was taken. A bool, as `io::write_all` gives it: std's writing would add an assumed contract, of the call for the error's number.
 pub fn print(file: &[u8]) -> bool {
     let mut text = [0; TEXT_SIZE];
     let length = play(file, &mut text);
