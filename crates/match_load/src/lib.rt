@@ -47,6 +47,7 @@ fn load_all(core: &mut [u64], queue: &mut [u64], h: Header, file: &[u8], count: 
     let rules = h.rules;
     let mut names = h.names;
     let mut processes = processes_of(h);
+    // The check takes no array's length from a field's type.
     sized(
         &names.bytes,
         &names.lengths,
