@@ -6,12 +6,12 @@ ghost use Rattle.std.proofs.lemmas.List.Edits.{sets};
 ghost use Rattle.battle.specs.Text.{printed};
 
 use playing::play_file;
-use printing::{put_refusal, put_run};
+use printing::{TEXT_SIZE, put_refusal, put_run};
 
 mod playing;
 
 // Plays a match file: puts every byte that is to be printed at the start of the memory lent for it, and gives how many they are.
-pub fn play(file: &[u8], out: &mut [u8; 16384]) -> usize
+pub fn play(file: &[u8], out: &mut [u8; TEXT_SIZE]) -> usize
     ensures { (out.new ≡ sets out.old 0 (printed file.now)) × (result ≡ length (printed file.now)) × (result ≤ length out.new) }
 {
     let mut core = [0; 8000];
@@ -22,9 +22,9 @@ pub fn play(file: &[u8], out: &mut [u8; 16384]) -> usize
     }
 }
 
-// Plays a match file, and writes to standard output what is to be printed; whether all of it was taken.
+// Plays a match file, and writes to standard output what is to be printed; whether all of it was taken. A bool, as `io::write_all` gives it: std's writing would add an assumed contract, of the call for the error's number.
 pub fn print(file: &[u8]) -> bool {
-    let mut text = [0; 16384];
+    let mut text = [0; TEXT_SIZE];
     let length = play(file, &mut text);
     io::write_all(1, &text[..length])
 }

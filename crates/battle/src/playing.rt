@@ -10,10 +10,8 @@ use fold::of_size;
 use machine::{Outcome, Rules};
 use match_file::read;
 use match_load::load_match;
+use memory::LONGEST_FILE;
 use sim::fresh;
-
-// The most bytes of a file.
-const LONGEST_FILE: usize = 32768;
 
 // The warriors of a file are loaded into a core of its size, and run with no ceiling given; or an error before the run.
 fn play_loaded(

@@ -1,6 +1,10 @@
 // Why there is no match file.
 use crate::kind::Kind;
+use crate::reading::LONGEST_TEXT;
 use answer::Error;
+use machine::limits::LARGEST_CORE;
+use memory::LONGEST_FILE;
+use metadata::LONGEST;
 use std::fmt;
 
 // Words and warriors are counted from 1.
@@ -19,7 +23,7 @@ impl fmt::Display for Fault {
     fn fmt<W: fmt::Write>(&self, f: &mut fmt::Formatter<W>) -> fmt::Result {
         match *self {
             Fault::Unreadable => write!(f, "standard input cannot be read"),
-            Fault::TooLong => write!(f, "the text is longer than 65536 bytes"),
+            Fault::TooLong => write!(f, "the text is longer than {LONGEST_TEXT} bytes"),
             Fault::NotWanted { word, wanted } => {
                 write!(f, "word {word} is not what is wanted: {wanted}")
             }
@@ -45,7 +49,7 @@ impl fmt::Display for Reason {
     // When the writer gives it.
     fn fmt<W: fmt::Write>(&self, f: &mut fmt::Formatter<W>) -> fmt::Result {
         match self.0 {
-            Error::InvalidCoreSize => write!(f, "M is not 1 to 46341"),
+            Error::InvalidCoreSize => write!(f, "M is not 1 to {LARGEST_CORE}"),
             Error::WarriorTooLong => write!(f, "longer than M"),
             Error::InvalidCode(index) => write!(
                 f,
@@ -53,9 +57,12 @@ impl fmt::Display for Reason {
             ),
             Error::InvalidNameOrPlace => write!(
                 f,
-                "name over 32 bytes or with a byte outside 33 to 126, or place not below M"
+                "name over {LONGEST} bytes or with a byte outside 33 to 126, or place not below M"
             ),
-            _ => write!(f, "a 17th warrior, or a file of more than 32768 bytes"),
+            _ => write!(
+                f,
+                "a 17th warrior, or a file of more than {LONGEST_FILE} bytes"
+            ),
         }
     }
 }

@@ -1,7 +1,7 @@
 // The kinds of words, in the order in which a text has them.
 use std::fmt;
 
-// After M and `warrior` come a name, an origin, a place, and six words for each instruction.
+// After M and `warrior` come a name, an origin, a place, and six words for each instruction; what is wanted next decides how a word is read, and a fault names it.
 #[derive(Clone, Copy, PartialEq, Eq)]
 pub(crate) enum Kind {
     Size,

@@ -2,16 +2,13 @@
 #![tactic(auto)]
 
 use crate::fault::Fault;
-use crate::reading::make;
+use crate::reading::{LONGEST_TEXT, make};
 use memory::read_into;
 use std::io::{Read, Write};
 
 mod fault;
 mod kind;
 mod reading;
-
-// The most bytes of a text.
-const LONGEST_TEXT: usize = 65536;
 
 // Reads a text, one byte more than the longest at most, and writes its file.
 fn run(input: &mut impl Read, output: &mut impl Write) -> Result<(), Fault> {

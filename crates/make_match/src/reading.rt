@@ -4,6 +4,7 @@ use crate::kind::Kind;
 use arrayvec::ArrayVec;
 use machine::limits::NO_ORIGIN;
 use match_write::{write_added, write_first};
+use memory::LONGEST_FILE;
 use metadata::Warrior;
 use std::str;
 use std::str::FromStr;
@@ -14,8 +15,8 @@ const BEGINNING: &[u8] = b"warrior";
 // The word for no name, and for no origin.
 const NONE: &[u8] = b"-";
 
-// The most bytes of a match file.
-const LONGEST_FILE: usize = 32768;
+// The most bytes of a text.
+pub(crate) const LONGEST_TEXT: usize = 65536;
 
 // A match file.
 pub(crate) type MatchFile = ArrayVec<u8, LONGEST_FILE>;
@@ -23,14 +24,15 @@ pub(crate) type MatchFile = ArrayVec<u8, LONGEST_FILE>;
 // What the words read so far say, and the file of the warriors before.
 #[derive(Drop)]
 struct Reading<'a> {
+    // Counted here, since a text's words come line by line.
     words: usize,
     wanted: Kind,
     size: u32,
     name: &'a [u8],
     origin: u16,
     place: u32,
-    // A text of 65,536 bytes has at most 5,460 instructions: 65,520 bytes.
-    body: ArrayVec<u8, 65536>,
+    // A text has at most 5,460 instructions: 65,520 bytes.
+    body: ArrayVec<u8, LONGEST_TEXT>,
     warriors: usize,
     file: MatchFile,
 }

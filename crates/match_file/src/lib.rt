@@ -18,7 +18,7 @@ pub struct Contents {
     pub size: u32,
 }
 
-// What the line of a warrior says: where in the file its name begins and how long it is, where its body begins, its instruction count, origin and place.
+// What the line of a warrior says: where in the file its name begins and how long it is, where its body begins, its instruction count, origin and place. Places and lengths, and not `metadata::Warrior`'s slices, since C's line (sumacadze/src/file.rt) tells where in the file they lie.
 #[derive(Clone, Copy)]
 pub struct Line {
     pub name_start: usize,
@@ -80,22 +80,32 @@ pub fn read_line(file: &[u8], number: usize) -> Result<Line, Error>
     Ok(line_in(file, number as u8))
 }
 
+// The warrior of a line; one without bytes where the file or the number is faulty.
+fn warrior_or_empty(file: &[u8], number: usize) -> Warrior<'_>
+    ensures name { result.name.now ≡ emptied (fault_at file.now number) (warrior_of file.now number).name }
+    ensures body { result.body.now ≡ emptied (fault_at file.now number) (warrior_of file.now number).body }
+{
+    if first_fault_at(file, number).is_some() {
+        return Warrior {
+            name: &[],
+            body: &[],
+            origin: 0,
+            place: 0,
+        };
+    }
+    warrior_in(file, number as u8)
+}
+
 // The name of a warrior: a part of the file.
 pub fn name(file: &[u8], number: usize) -> &[u8]
     ensures { result.now ≡ emptied (fault_at file.now number) (warrior_of file.now number).name }
 {
-    if first_fault_at(file, number).is_some() {
-        return &file[..0];
-    }
-    warrior_in(file, number as u8).name
+    warrior_or_empty(file, number).name
 }
 
 // The body of a warrior: that very part of the file.
 pub fn body(file: &[u8], number: usize) -> &[u8]
     ensures { result.now ≡ emptied (fault_at file.now number) (warrior_of file.now number).body }
 {
-    if first_fault_at(file, number).is_some() {
-        return &file[..0];
-    }
-    warrior_in(file, number as u8).body
+    warrior_or_empty(file, number).body
 }

@@ -61,6 +61,7 @@ fn check_lines(file: &[u8], n: u8) -> Result<(), usize>
     ensures { result_err result ≡ lines_fault file.now 4 (4 + 43 * n) n }
 {
     let mut start = 4 + 43 * n as usize;
+    // The number is a line's, from which its place in the file follows.
     for line in 0..n {
         start = check_line(file, 4 + 43 * line as usize, start)?;
     }

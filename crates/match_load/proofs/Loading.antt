@@ -18,10 +18,13 @@ use Rattle.machine.specs.declared.Header.{Header}
 use Rattle.machine.specs.State as state
 use Rattle.machine.specs.State.{Machine, Outcome, joined, Verdict, accepted, refusal, first}
 use Rattle.machine.specs.Soundness.{sound_header}
-use Rattle.machine.specs.Load.{loaded}
+use Rattle.machine.specs.Load.{loaded, load}
 use Rattle.machine.proofs.Soundness.{SoundHeader, size-most}
 use Rattle.machine.proofs.Load.{load-by-cases, load-refused, load-accepted, load-sound}
+use Rattle.warrior.specs.Tested.{load_tested}
+use Rattle.warrior.proofs.Testing.{tested-load}
 use Rattle.match_format.specs.Faults.{fault}
+use Rattle.match_format.specs.Format.{Warrior}
 use Rattle.match_file.specs.Reading.{told_by, warriors_in, size_in, warrior_of}
 use Rattle.lent.specs.Parts.{machine_of}
 use Rattle.lent.specs.Given.{Given, given, given_by}
@@ -48,6 +51,10 @@ module _ (f : List ℕ) (k : ℕ) (m : Machine) where
 
   stays-sound : SoundHeader m → SoundHeader (load_warrior f k m).machine
   stays-sound s = load-sound m w-name (warrior_of f k).body (warrior_of f k).origin (warrior_of f k).place s
+
+  -- of a header that was tested before
+  pub loaded-is : {g : Given} (w : Warrior) → sound_header m ≡ true → w ≡ warrior_of f k → g ≡ given_by (load_tested m w.name w.body w.origin w.place) → g ≡ given_by (load_warrior f k m)
+  loaded-is w s is e = e ∙ ap given_by (tested-load m w.name w.body w.origin w.place s ∙ ap (λ (x : Warrior). load m x.name x.body x.origin x.place) is)
 
 -- loads that stopped, as the code gives them, with the number of the warrior
 pub stopping : {answer A : Answer} {writes w steps : ℕ} {g h : Header} {warrior k : ℕ} (core queue : List ℕ) {X : Given} {y : ℕ}

@@ -35,6 +35,7 @@ fn put_lines(out: &mut [u8], file: &[u8], n: usize, first: usize) -> usize
         × (out.new ≡ sets out.old 4 (lines first (warriors_at file.now 4 n))) }
 {
     let mut next = first;
+    // The number is a line's, from which its place in both files follows.
     for number in 0..n {
         let w = warrior_in(file, number as u8);
         put_line(out, 4 + 43 * number, w, next);

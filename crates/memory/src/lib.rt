@@ -6,6 +6,9 @@ ghost use Rattle.std.specs.Io.KnownBytes.{Consumes, IsAtEnd};
 
 use std::io::{Read, Result};
 
+// The most bytes of a match file.
+pub const LONGEST_FILE: usize = 32768;
+
 // N zeros. A program calls this where N is so large that the check cannot work out the array.
 pub fn zeros<const N: usize>() -> [u8; N]
     ensures { result ≡ replicate N 0 }
@@ -14,7 +17,7 @@ pub fn zeros<const N: usize>() -> [u8; N]
 }
 
 // Memory for a file, and one byte more, which tells a file that is too long.
-pub fn file_memory() -> [u8; 32769]
+pub fn file_memory() -> [u8; LONGEST_FILE + 1]
     ensures { result ≡ replicate 32769 0 }
 {
     zeros()

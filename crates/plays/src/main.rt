@@ -4,7 +4,7 @@
 use battle::print;
 use memory::file_memory;
 
-// Reads a length and a file, and plays it where it fits into the memory; whether there was a length.
+// Reads a length and a file, and plays it where it fits into the memory; whether there was a length, which is the loop's test. By `io::read_full`: std's reading would add an assumed contract, of the call for the error's number.
 fn play_next() -> bool {
     let mut head = [0u8; 3];
     if io::read_full(0, &mut head) < head.len() {
@@ -20,7 +20,7 @@ fn play_next() -> bool {
     true
 }
 
-// At most 10,000 files.
+// At most 10,000 files: the loop must end by itself, and how many there are is not said.
 fn main() {
     for _ in 0..10000 {
         if !play_next() {

@@ -1,7 +1,7 @@
 -- The lines that are printed, put one after the other.
 -- Assumes nothing.
 use Prim.Native.Nat.{ℕ, zero, suc, ◌+◌, ◌*◌, ◌≤◌, ◌<◌}
-use mathlib.Core.Path.{◌≡◌, refl, sym, ap, subst, ◌∙◌}
+use mathlib.Core.Path.{◌≡◌, refl, sym, ap, ap₂, subst, ◌∙◌}
 use mathlib.Core.Bool.{Bool, cond}
 use mathlib.Core.List.{List, [], ◌∷◌, ◌++◌}
 use native.Mathlib.Nat.{add-zero, zero-add}
@@ -60,9 +60,9 @@ names-more h i (suc n) =
     ap (λ (l : List ℕ). line_at h i ++ l) rest ∙ sym (append_assoc (line_at h i) (name_lines h (i + 1) n) (line_at h (i + suc n)))
 
 -- the loop over the names: the line of the name at i comes after those before it
-pub name-added : (h : Header) (i : ℕ) {a b c : Text} {name : List ℕ} → Adds a b (name_lines h 0 i) → name ≡ name_at h.names i
-    → Adds b c (line_of name (get_or h.counts i 0)) → Adds a c (name_lines h 0 (i + 1))
-name-added h i {a = a} {b = b} {c = c} p is q =
+pub name-added : (h : Header) (i : ℕ) {a b c : Text} {name : List ℕ} {count : ℕ} → Adds a b (name_lines h 0 i) → name ≡ name_at h.names i → count ≡ get_or h.counts i 0
+    → Adds b c (line_of name count) → Adds a c (name_lines h 0 (i + 1))
+name-added h i {a = a} {b = b} {c = c} {name = name} {count = count} p is counted q =
     let one : suc i ≡ i + 1 = omega arith in
-    let line : Adds b c (line_at h (0 + i)) = subst (λ (k : ℕ). Adds b c (line_at h k)) (sym (zero-add i)) (subst (λ (n : List ℕ). Adds b c (line_of n (get_or h.counts i 0))) is q) in
-    subst (λ (k : ℕ). Adds a c (name_lines h 0 k)) one (subst (Adds a c) (sym (names-more h 0 i)) (then p line))
+    let same = ap₂ line_of is counted ∙ ap (line_at h) (sym (zero-add i)) in
+    subst (λ (k : ℕ). Adds a c (name_lines h 0 k)) one (subst (Adds a c) (sym (names-more h 0 i)) (then p (subst (Adds b c) same q)))

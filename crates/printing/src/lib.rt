@@ -7,12 +7,16 @@ ghost use Rattle.printing.specs.Text.{Puts};
 
 use answer::{Answer, number, value};
 use machine::Header;
+use machine::limits::MOST_NAMES;
 use text::Text;
 
 mod text;
 
+// The bytes of the memory that is lent for the lines.
+pub const TEXT_SIZE: usize = 16384;
+
 // Puts the line of a refusal: the number, and for 13 its position.
-pub fn put_refusal(out: &mut [u8; 16384], answer: Answer) -> usize
+pub fn put_refusal(out: &mut [u8; TEXT_SIZE], answer: Answer) -> usize
     ensures { Puts out.old out.new 0 result (spec.refusal_text (told answer)) }
 {
     let which = number(answer);
@@ -27,10 +31,16 @@ pub fn put_refusal(out: &mut [u8; 16384], answer: Answer) -> usize
 }
 
 // Puts the lines of a run: answer, steps and writes, then the names; none where the header holds more than 16 names.
-pub fn put_run(out: &mut [u8; 16384], answer: Answer, steps: u64, writes: u64, h: Header) -> usize
+pub fn put_run(
+    out: &mut [u8; TEXT_SIZE],
+    answer: Answer,
+    steps: u64,
+    writes: u64,
+    h: Header,
+) -> usize
     ensures { Puts out.old out.new 0 result (spec.run_text_if (told answer).number steps writes h) }
 {
-    if h.names.held > 16 {
+    if h.names.held > MOST_NAMES {
         return 0;
     }
     let mut lines = Text::new(out);

@@ -8,7 +8,7 @@ use lent::sized;
 use machine::Header;
 use names::name_at;
 
-// The memory, and how many bytes are put.
+// The memory, and how many bytes are put. Not `write!`, which gives a Result: the bytes are promised one by one.
 #[derive(Drop)]
 pub(crate) struct Text<'a> {
     memory: &'a mut [u8],
@@ -42,7 +42,7 @@ impl<'a> Text<'a> {
         self.bytes(&[b]);
     }
 
-    // Puts a number in decimal digits. `write!` would give a Result, and `io::decimal` cannot fail.
+    // Puts a number in decimal digits.
     pub(crate) fn decimal(&mut self, n: u64)
         requires { self.old.length + 20 ≤ length self.old.memory.now }
         ensures adds { Adds self.old self.new (spec.decimal n) }
@@ -72,9 +72,9 @@ impl<'a> Text<'a> {
     {
         // The check takes no array's length from a field's type.
         sized(&h.names.bytes, &h.names.lengths, &h.counts, &h.threads);
-        for i in 0..h.names.held as usize {
-            let count = h.counts[i];
-            self.name(name_at(&h.names, i), count);
+        let counts = &h.counts[..h.names.held as usize];
+        for (i, count) in counts.iter().enumerate() {
+            self.name(name_at(&h.names, i), *count);
         }
     }
 }

@@ -7,6 +7,7 @@ use crate::call::Call;
 use crate::input::Input;
 use crate::line::tell;
 use fold::of_size;
+use machine::limits::LARGEST_CORE;
 use memory::zeros;
 use sim::fresh;
 use std::io::Result;
@@ -35,7 +36,7 @@ fn battle(input: &mut Input<'_>, core: &mut [u64], queue: &mut [u64]) -> Result<
     Ok(())
 }
 
-// All battles.
+// All battles; how many there are is not said.
 fn battles(input: &[u8], core: &mut [u64], queue: &mut [u64]) -> Result<()> {
     let mut input = Input { rest: input };
     while !input.rest.is_empty() {
@@ -44,10 +45,10 @@ fn battles(input: &[u8], core: &mut [u64], queue: &mut [u64]) -> Result<()> {
     Ok(())
 }
 
-// Memory for the input, the largest core, and a queue whose limit no recorded battle meets.
+// Memory for the input, the largest core, and a queue whose limit no recorded battle meets. By `io`: std's standard input and output would add an assumed contract, of the call for the error's number.
 fn main() {
     let mut input = zeros::<1200000>();
-    let mut core = [0; 46341];
+    let mut core = [0; LARGEST_CORE as usize];
     let mut queue = [0; 16384];
     let length = io::read_full(0, &mut input);
     let _ = battles(&input[..length], &mut core, &mut queue);

@@ -4,7 +4,7 @@ ghost use Rattle.answer.specs.Numbers.{gives};
 ghost use Rattle.match_format.specs.Faults.{fault, fault_at};
 ghost use Rattle.match_file.specs.Reading.{told_by, zeroed, warriors_in, size_in, line_at, name_start, name_length, body_start, count_of, warrior_of};
 
-// 01's number, the position of a fault, how many warriors a file has, and M.
+// 01's number, the position of a fault, how many warriors a file has, and M; numbers and zeros, since C has no Result.
 #[repr(C)]
 #[derive(Clone, Copy)]
 pub struct Contents {
@@ -14,7 +14,7 @@ pub struct Contents {
     pub size: u32,
 }
 
-// 01's number, the position of a fault, which bytes of the file are a warrior's name and body, its origin and its place.
+// 01's number, the position of a fault, which bytes of the file are a warrior's name and body, its origin and its place; numbers and zeros, since C has no Result.
 #[repr(C)]
 #[derive(Clone, Copy)]
 pub struct Line {

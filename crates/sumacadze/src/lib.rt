@@ -12,7 +12,7 @@ ghost use Rattle.lent.specs.Parts.{machine_of};
 ghost use Rattle.lent.specs.Given.{given, given_by};
 ghost use Rattle.sumacadze.specs.Report.{ceiling_if, cell_of};
 
-use by_value::{ceiling_if, in_numbers};
+use by_value::{ceiling_if, hand_back, in_numbers};
 use machine::{Header, Rules};
 use metadata::Warrior;
 
@@ -20,7 +20,7 @@ mod by_value;
 pub mod file;
 pub mod load_match;
 
-// 01's number, its value, and the writes and steps of a call.
+// 01's number, its value, and the writes and steps of a call. In this struct and the others a refusal is a number beside zeros, since C has no Result.
 #[repr(C)]
 #[derive(Clone, Copy)]
 pub struct Report {
@@ -122,16 +122,10 @@ pub fn sumacadze_step(core: &mut [u64], queue: &mut [u64], header: &mut Header) 
         ≡ given_by (one.step (machine_of core.old queue.old header.old)) }
 {
     let s = cycle::step(core, queue, *header);
-    let counts = s.header.counts;
-    let threads = s.header.threads;
-    header.ring = s.header.ring;
-    header.steps = s.header.steps;
-    header.counts = counts;
-    header.threads = threads;
-    in_numbers(s.answer, s.writes, s.steps)
+    hand_back(header, &s)
 }
 
-// Steps while steps taken are below the ceiling, if one is said (else below 10,000), up to the first answer not 0.
+// Steps while steps taken are below the ceiling, if one is said (else below 10,000), up to the first answer not 0. C has no Option, so `said` tells whether there is a ceiling.
 pub fn sumacadze_run(
     core: &mut [u64],
     queue: &mut [u64],
@@ -143,11 +137,5 @@ pub fn sumacadze_run(
         ≡ given_by (running.run (ceiling_if said ceiling) (machine_of core.old queue.old header.old)) }
 {
     let s = cycle::run(core, queue, *header, ceiling_if(said, ceiling));
-    let counts = s.header.counts;
-    let threads = s.header.threads;
-    header.ring = s.header.ring;
-    header.steps = s.header.steps;
-    header.counts = counts;
-    header.threads = threads;
-    in_numbers(s.answer, s.writes, s.steps)
+    hand_back(header, &s)
 }

@@ -9,7 +9,7 @@ use crate::Report;
 use crate::by_value::in_numbers;
 use machine::Header;
 
-// What comes of the loads: the report, the number of the warrior at which they stopped, from 0 (0 where none was refused), and the header.
+// What comes of the loads: the report, the number of the warrior at which they stopped, from 0 (0 where none was refused, since C has no Option), and the header.
 #[repr(C)]
 #[derive(Clone, Copy)]
 pub struct Loads {

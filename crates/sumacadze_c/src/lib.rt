@@ -63,7 +63,7 @@ pub extern "C" fn sumacadze_step(core: &mut [u64], queue: &mut [u64], header: &m
     sumacadze::sumacadze_step(core, queue, header)
 }
 
-// Steps while steps taken are below the ceiling, if one is said (else below 10,000), up to the first answer not 0.
+// Steps while steps taken are below the ceiling, if one is said (else below 10,000), up to the first answer not 0. C has no Option, so `said` tells whether there is a ceiling.
 #[unsafe(no_mangle)]
 pub extern "C" fn sumacadze_run(
     core: &mut [u64],

@@ -1,63 +1,80 @@
 -- The goals of `match_load::load_all` that the check leaves.
-use mathlib.Core.Path.{refl}
+use Prim.Native.Nat.{◌-◌}
+use mathlib.Core.Path.{refl, sym, ap, subst, ◌∙◌}
 use native.Mathlib.Omega.{arith}
 use Rattle.answer.specs.Numbers.{gives, told_error}
 use Rattle.answer.proofs.Numbers.{not_zero}
+use Rattle.machine.specs.Soundness.{sound_header}
 use Rattle.machine.proofs.Names.{Shape}
 use Rattle.machine.proofs.Soundness.{header-sound, sound-header}
-use Rattle.lent.specs.Parts.{parts}
+use Rattle.lent.specs.Given.{given}
+use Rattle.lent.specs.Parts.{machine_of, parts}
+use Rattle.lent.proofs.Parts.{whole}
 use Rattle.match_load.specs.Loading.{loads}
-use Rattle.match_load.proofs.Loading.{load-stops, load-goes-on, few-more, still-sound, loads-begin, loads-end}
+use Rattle.match_load.proofs.Loading.{Leaves, stopping, loaded-is, load-stops, load-goes-on, few-more, still-sound, loads-begin, loads-end}
 use Rattle.match_load.proofs.load_all.Goals as goal
 
 pub loop-i-init : goal.loop-i-init
 loop-i-init c =
     let a = c.args in
-    let m = parts a.core.now a.queue.now a.rules a.names.now a.processes.now in
+    let begins = machine_of a.core.now a.queue.now a.h in
+    let m = parts a.core.now a.queue.now a.h.rules a.h.names c.processes_of-processes.result in
+    let w = whole a.core.now a.queue.now a.h c.processes_of-processes.ensures in
     let z = c.sized.ensures in
     let shape : Shape m.header = record { names = z.0; lengths = z.1; counts = z.2; threads = z.3 } in
-    (loads-begin a.file.now a.count m, sound-header m shape c.requires.1, omega arith)
-
-pub load_one-requires : goal.load_one-requires
-load_one-requires c = header-sound _ c.loop-i.invariant.1
+    record {
+      left = subst (λ n. Leaves 0 (loads a.file.now 0 (a.count - 0) n) (loads a.file.now 0 a.count begins)) (sym w) (loads-begin a.file.now a.count begins);
+      sound = sound-header m shape (ap sound_header w ∙ c.requires.1);
+      few = omega arith;
+    }
 
 pub overflow_add-writes : goal.overflow_add-writes
 overflow_add-writes c =
     let a = c.args in
     let l = c.loop-i in
-    let o = c.load_one in
-    let m = parts l.core l.queue a.rules l.names l.processes in
-    let n = parts o.new.core o.new.queue a.rules o.new.names o.new.processes in
-    let more = few-more a.file.now l.i m (gives 0 0) n c.in-Ok.ensures l.invariant.1 refl in
-    record { fits = omega (arith, more, l.invariant.2, c.loop-i-test.true, c.requires.0) }
+    let o = c.load_parts in
+    let m = parts l.core l.queue a.h.rules l.names l.processes in
+    let n = parts o.new.core o.new.queue a.h.rules o.new.names o.new.processes in
+    let gave = loaded-is a.file.now l.i m _ (header-sound m l.invariant.sound) c.warrior_in-w.ensures c.in-Ok.ensures in
+    let more = few-more a.file.now l.i m (gives 0 0) n gave l.invariant.sound refl in
+    record { fits = omega (arith, more, l.invariant.few, c.loop-i-test.true, c.requires.0) }
 
 pub returns-in-Err : goal.returns-in-Err
 returns-in-Err c =
     let a = c.args in
     let l = c.loop-i in
-    let o = c.load_one in
-    let b = parts a.core.now a.queue.now a.rules a.names.now a.processes.now in
-    let m = parts l.core l.queue a.rules l.names l.processes in
-    let n = parts o.new.core o.new.queue a.rules o.new.names o.new.processes in
-    load-stops a.file.now l.i m (told_error c.in-Err.error) n c.in-Err.ensures a.count l.writes c.loop-i-test.true (loads a.file.now 0 a.count b) l.invariant.0 (not_zero c.in-Err.error)
+    let o = c.load_parts in
+    let e = c.in-Err.error in
+    let m = parts l.core l.queue a.h.rules l.names l.processes in
+    let n = parts o.new.core o.new.queue a.h.rules o.new.names o.new.processes in
+    let gave = loaded-is a.file.now l.i m _ (header-sound m l.invariant.sound) c.warrior_in-w.ensures c.in-Err.ensures in
+    let all = loads a.file.now 0 a.count (machine_of a.core.now a.queue.now a.h) in
+    let stops = load-stops a.file.now l.i m (told_error e) n gave a.count l.writes c.loop-i-test.true all l.invariant.left (not_zero e) in
+    stopping o.new.core o.new.queue c.stopped.ensures
+    (ap (λ h. given (told_error e) l.writes 0 (machine_of o.new.core o.new.queue h)) c.header_of-header.ensures ∙ stops.0, stops.1)
 
 pub loop-i-preserved : goal.loop-i-preserved
 loop-i-preserved c =
     let a = c.args in
     let l = c.loop-i in
-    let o = c.load_one in
-    let b = parts a.core.now a.queue.now a.rules a.names.now a.processes.now in
-    let m = parts l.core l.queue a.rules l.names l.processes in
-    let n = parts o.new.core o.new.queue a.rules o.new.names o.new.processes in
-    let more = few-more a.file.now l.i m (gives 0 0) n c.in-Ok.ensures l.invariant.1 refl in (
-      load-goes-on a.file.now l.i m (gives 0 0) n c.in-Ok.ensures a.count l.writes c.loop-i-test.true (loads a.file.now 0 a.count b) l.invariant.0 refl,
-      still-sound a.file.now l.i m (gives 0 0) n c.in-Ok.ensures l.invariant.1,
-      omega (arith, more, l.invariant.2),
-    )
+    let o = c.load_parts in
+    let m = parts l.core l.queue a.h.rules l.names l.processes in
+    let n = parts o.new.core o.new.queue a.h.rules o.new.names o.new.processes in
+    let gave = loaded-is a.file.now l.i m _ (header-sound m l.invariant.sound) c.warrior_in-w.ensures c.in-Ok.ensures in
+    let all = loads a.file.now 0 a.count (machine_of a.core.now a.queue.now a.h) in
+    let more = few-more a.file.now l.i m (gives 0 0) n gave l.invariant.sound refl in
+    record {
+      left = load-goes-on a.file.now l.i m (gives 0 0) n gave a.count l.writes c.loop-i-test.true all l.invariant.left refl;
+      sound = still-sound a.file.now l.i m (gives 0 0) n gave l.invariant.sound;
+      few = omega (arith, more, l.invariant.few);
+    }
 
 pub returns : goal.returns
 returns c =
     let a = c.args in
     let l = c.loop-i in
-    loads-end a.file.now a.count (parts l.core l.queue a.rules l.names l.processes) l.i l.writes
-    (loads a.file.now 0 a.count (parts a.core.now a.queue.now a.rules a.names.now a.processes.now)) l.invariant.0 (omega (arith, c.loop-i-test.false))
+    let m = parts l.core l.queue a.h.rules l.names l.processes in
+    let all = loads a.file.now 0 a.count (machine_of a.core.now a.queue.now a.h) in
+    let ends = loads-end a.file.now a.count m l.i l.writes all l.invariant.left (omega (arith, c.loop-i-test.false)) in
+    stopping l.core l.queue c.stopped-2.ensures
+    (ap (λ h. given (gives 0 0) l.writes 0 (machine_of l.core l.queue h)) c.header_of-header-2.ensures ∙ ends.0, ends.1)

@@ -12,4 +12,4 @@ returns c =
     let m = machine_of a.core.now a.queue.now a.header.now in
     let ceiling = ceiling_if a.said a.ceiling in
     let ran = rw c.ceiling_if.ensures at c.run-s.ensures in
-    changed-in_numbers a.header.now (run ceiling m) c.run-s.result.answer c.in_numbers.ensures ran (run-fixed ceiling m)
+    changed-in_numbers a.header.now (run ceiling m) c.run-s.result.answer c.hand_back.ensures.changed c.hand_back.ensures.told ran (run-fixed ceiling m)

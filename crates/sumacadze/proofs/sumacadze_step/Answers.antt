@@ -9,4 +9,4 @@ pub returns : goal.returns
 returns c =
     let a = c.args in
     let m = machine_of a.core.now a.queue.now a.header.now in
-    changed-in_numbers a.header.now (step m) c.step-s.result.answer c.in_numbers.ensures c.step-s.ensures (step-fixed m)
+    changed-in_numbers a.header.now (step m) c.step-s.result.answer c.hand_back.ensures.changed c.hand_back.ensures.told c.step-s.ensures (step-fixed m)

@@ -2,6 +2,7 @@
 use mathlib.Core.Path.{ap}
 use native.Mathlib.Omega.{arith}
 use lib.ListN.{length}
+use lib.Seq.{get_or-take}
 use Rattle.printing.proofs.Lines.{name-short, name-added}
 use Rattle.printing.proofs.text.Text.names.Goals as goal
 
@@ -16,6 +17,6 @@ loop-i-preserved c =
     let short = name-short c.args.h c.loop-i.i c.sized.ensures.0 in
     let name = ap length c.name_at.ensures in
     record {
-      added = name-added c.args.h c.loop-i.i c.loop-i.invariant.added c.name_at.ensures c.name.ensures.adds;
+      added = name-added c.args.h c.loop-i.i c.loop-i.invariant.added c.name_at.ensures (get_or-take c.args.h.names.held c.args.h.counts c.loop-i.i 0 (omega arith)) c.name.ensures.adds;
       short = omega arith;
     }

@@ -6,6 +6,6 @@ use Rattle.printing.proofs.text.Text.names.Given as goal
 
 abbrev pub invariant-loop-i : goal.invariant-loop-i
 invariant-loop-i l = record {
-  added : Adds l.fn.self l.self (name_lines l.h 0 l.i);
+  added : Adds l.fn.self l.self (name_lines l.fn.h 0 l.i);
   short : l.self.length ≤ l.fn.self.length + 540 * l.i;
 }
