@@ -15,7 +15,7 @@ pub fn number32(b0: u8, b1: u8, b2: u8, b3: u8) -> u32
     b0 as u32 + 256 * (b1 as u32 + 256 * (b2 as u32 + 256 * b3 as u32))
 }
 
-// A number of 32 bits as an i32.
+// A number of 32 bits as an i32: `cast_signed` under a promise of its own.
 pub fn signed(n: u32) -> i32
     ensures { result ≡ spec.signed n }
 {

@@ -80,7 +80,7 @@ pub fn read_line(file: &[u8], number: usize) -> Result<Line, Error>
     Ok(line_in(file, number as u8))
 }
 
-// The warrior of a line; one without bytes where the file or the number is faulty.
+// The warrior of a line; one without bytes where the file or the number is faulty, since the parts are empty then (01, 'Match file').
 fn warrior_or_empty(file: &[u8], number: usize) -> Warrior<'_>
     ensures name { result.name.now ≡ emptied (fault_at file.now number) (warrior_of file.now number).name }
     ensures body { result.body.now ≡ emptied (fault_at file.now number) (warrior_of file.now number).body }

@@ -4,7 +4,7 @@
 ghost use Rattle.std.specs.Prelude.{◌≡◌};
 ghost use Rattle.metadata.specs.Metadata.{valid_name, called};
 
-// A warrior: its name, the bytes of its body, the first instruction to run, and the place in the core of its body.
+// A warrior: its name, the bytes of its body, the first instruction to run, and the place in the core of its body. No Option of an origin: a match file has 65,535 for none, and so has C.
 #[derive(Clone, Copy)]
 pub struct Warrior<'a> {
     pub name: &'a [u8],

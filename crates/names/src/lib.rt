@@ -14,7 +14,7 @@ use machine::limits::MOST_NAMES;
 use machine::{Processes, Roster};
 use metadata::LONGEST;
 
-// Whether two names are the same bytes.
+// Whether two names are the same bytes: `==` under a promise of its own.
 pub fn equal(a: &[u8], b: &[u8]) -> bool
     ensures { result ≡ same a.now b.now }
 {

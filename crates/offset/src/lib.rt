@@ -35,7 +35,7 @@ pub fn remainder(n: u64, size: u32) -> u32
     r
 }
 
-// A number, reduced by Euclidean remainder; 0 in a core of no cells. `!n` is -(n + 1).
+// A number, reduced by Euclidean remainder; 0 in a core of no cells. `!n` is -(n + 1). Not `rem_euclid`, which divides each number.
 pub fn reduce(n: i32, size: u32) -> Relative
     ensures { result.0 ≡ euclid n size }
 {

@@ -12,12 +12,12 @@ use Rattle.answer.specs.declared.Error.{Error}
 use Rattle.answer.specs.declared.Error.TheVariants.{InvalidCode}
 use lib.IntN.{ℤ}
 use lib.ListN.{length, get_or, take, length-take}
-use borrow.Author.Tests.{eqb-true, lt-leb, le-leb, eq-eqb, ne_eqb}
-use Rattle.laws.proofs.Tests.{and-false, and_assoc, and-true}
+use borrow.Author.Tests.{eqb-true, eq-eqb, ne_eqb}
+use Rattle.laws.proofs.Tests.{and_assoc, and-true}
 use Rattle.laws.proofs.Lists.{drop-first}
 use Rattle.offset.specs.Offset.{euclid}
 use Rattle.cell.specs.Cells.{packed, relative}
-use Rattle.types.specs.Defaults.{default_of, defaulted}
+use Rattle.types.specs.Defaults.{ranged, default_of, defaulted}
 use Rattle.cell.proofs.Words.{cell-ext}
 use Rattle.encoding.specs.Bytes.{part, value, signed}
 use Rattle.program.specs.Program.{modifier_of, lawful, cell_of}
@@ -56,18 +56,24 @@ module _ (x : List ℕ) where
     codes m e = rw e (simp (eq-eqb (length x) 12 whole, and_assoc, and-true))
 
     -- it is faulty where one code is out of range, else its modifier decides
-    pub bad_opcode : 18 < get_or x 0 0 → false ≡ lawful x
-    bad_opcode h = simp (lt-leb (get_or x 0 0) 18 h) at (codes (modifier_of x) refl)
+    abbrev pub in_range : Bool
+    in_range = ranged (get_or x 0 0) (get_or x 2 0) (get_or x 3 0)
 
-    pub bad_a-mode : 7 < get_or x 2 0 → false ≡ lawful x
-    bad_a-mode h = simp (lt-leb (get_or x 2 0) 7 h, and-false) at (codes (modifier_of x) refl)
+    pub out_of_range : in_range ≡ false → false ≡ lawful x
+    out_of_range h = go (leb (get_or x 0 0) 18) (leb (modifier_of x) 6) (leb (get_or x 2 0) 7) (leb (get_or x 3 0) 7) h ∙ codes (modifier_of x) refl
+      where
+        go : (o m a b : Bool) → (o && a && b) ≡ false → false ≡ (o && m && a && b)
+        go false m a b e = refl
+        go true false a b e = refl
+        go true true a b e = sym e
 
-    pub bad_b-mode : 7 < get_or x 3 0 → false ≡ lawful x
-    bad_b-mode h = simp (lt-leb (get_or x 3 0) 7 h, and-false) at (codes (modifier_of x) refl)
-
-    pub modifier_decides : (m : ℕ) → m ≡ modifier_of x → get_or x 0 0 ≤ 18 → get_or x 2 0 ≤ 7 → get_or x 3 0 ≤ 7 → leb m 6 ≡ lawful x
-    modifier_decides m e f g h =
-        simp (le-leb (get_or x 0 0) 18 f, le-leb (get_or x 2 0) 7 g, le-leb (get_or x 3 0) 7 h, and-true) at (codes m e)
+    pub modifier_decides : (m : ℕ) → m ≡ modifier_of x → in_range ≡ true → leb m 6 ≡ lawful x
+    modifier_decides m e h = go (leb (get_or x 0 0) 18) (leb m 6) (leb (get_or x 2 0) 7) (leb (get_or x 3 0) 7) h ∙ codes m e
+      where
+        go : (o m a b : Bool) → (o && a && b) ≡ true → m ≡ (o && m && a && b)
+        go true true a b e = sym e
+        go true false a b e = refl
+        go false m a b e = absurd (let f : ⊥ = cc in f)
 
     -- a number of four bytes
     pub number_at : (p : ℕ) → p + 4 ≤ 12

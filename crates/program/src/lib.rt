@@ -9,10 +9,8 @@ ghost use Rattle.program.specs.Program.{instructions, modifier_of, lawful, fault
 use cell::{Cell, pack};
 use encoding::{number32, signed};
 use offset::reduce;
-use types::mode::POST_INC_INDIRECT_B;
 use types::modifier::{I, UNNAMED};
-use types::opcode::STP;
-use types::{default_88_to_94, has_default};
+use types::{default_88_to_94, has_default, in_range};
 
 // How many instructions a body has; a last one cut short counts.
 pub fn len(body: &[u8]) -> usize
@@ -21,7 +19,7 @@ pub fn len(body: &[u8]) -> usize
     body.len().div_ceil(12)
 }
 
-// The modifier of an instruction, 255 resolved.
+// The modifier of an instruction, 255 resolved; 255 where there is no default, as the definition says.
 fn modifier_of(x: &[u8; 12]) -> u8
     ensures { result ≡ modifier_of x.now }
 {
@@ -35,7 +33,7 @@ fn modifier_of(x: &[u8; 12]) -> u8
 fn is_lawful(x: &[u8; 12]) -> bool
     ensures { result ≡ lawful x.now }
 {
-    if x[0] > STP as u8 || x[2] > POST_INC_INDIRECT_B as u8 || x[3] > POST_INC_INDIRECT_B as u8 {
+    if !in_range(x[0], x[2], x[3]) {
         return false;
     }
     if x[1] == UNNAMED {

@@ -135,7 +135,7 @@ fn front(queue: &[u64], rules: Rules, held: u32, processes: &Processes) -> Resul
     Ok(e)
 }
 
-// The refusal of the next step, 0 for none.
+// The refusal of the next step, 0 for none. The parts are lent one by one, as a run has them: a struct of them would be made anew at each step.
 pub fn refusal(
     core: &[u64],
     queue: &[u64],

@@ -19,7 +19,7 @@ impl<'a> Input<'a> {
         bytes
     }
 
-    // The next byte.
+    // The next byte. Of `from_le_bytes` std has no trait, so each type has a line of its own.
     pub(crate) fn byte(&mut self) -> u8
         ensures { length self.new.rest.now ≡ length self.old.rest.now - 1 }
     {

@@ -10,7 +10,7 @@ ghost use Rattle.lent.specs.Parts.{names_of, header_of, parts, valid_length};
 ghost use Rattle.soundness.specs.Bounds.{bounded};
 ghost use Rattle.soundness.specs.Inner.Keys.{key_of, Keyed, times_in};
 
-use encoding::byte;
+use encoding::{byte, number32};
 use entry::unpack;
 use fold::valid_limits;
 use machine::limits::{LARGEST_CORE, MOST_ENTRIES, MOST_NAMES};
@@ -37,7 +37,7 @@ fn bytes_valid(bytes: &[u8; 512], start: usize, size: usize) -> bool
     valid
 }
 
-// Whether the bytes of each name held are valid.
+// Whether the bytes of each name held are valid. That no more than 16 are held is asked here and below: C lends any header, and `sound_header` alone tests it.
 fn names_valid(names: &Roster, held: usize) -> bool
     requires { (held ≤ 16) × ((k : ℕ) → k < held → get_or names.now.lengths k 0 ≤ 32) }
     ensures { result ≡ every (every valid_byte) (table (name_at names.now) 0 held) }
@@ -50,16 +50,12 @@ fn key_of(name: &[u8]) -> u32
     ensures { result ≡ key_of name.now }
 {
     let n = name.len();
-    let first = byte(name, 0) as u32;
+    let first = byte(name, 0);
     if n < 2 {
-        return n as u32 + first * 256 + first * 16777216;
+        return number32(n as u8, first, 0, first);
     }
-    let size = (n % 256) as u32;
-    let end = n - 1;
-    let before = byte(name, end - 1) as u32;
-    let last = byte(name, end) as u32;
-    let key = size + first * 256 + before * 65536 + last * 16777216;
-    key
+    let size = (n % 256) as u8;
+    number32(size, first, byte(name, n - 2), byte(name, n - 1))
 }
 
 // The key of each name held.
@@ -118,7 +114,7 @@ fn total_of(counts: &[u32]) -> u64
     sum
 }
 
-// Whether M, the limits and the memories' lengths are such as fresh takes, and the head lies in the queue memory.
+// Whether M, the limits and the memories' lengths are such as fresh takes, and the head lies in the queue memory: row by row, so `queue::headed`, which has two of the rows, is not asked.
 pub fn in_bounds(core: &[u64], queue: &[u64], rules: Rules, ring: Ring) -> bool
     ensures { result ≡ bounded core.now queue.now rules ring.head }
 {
@@ -133,7 +129,7 @@ pub fn in_bounds(core: &[u64], queue: &[u64], rules: Rules, ring: Ring) -> bool
         & ((ring.head as usize) < slots)
 }
 
-// Whether a header is sound beside the core's and the queue's memory.
+// Whether a header is sound beside the core's and the queue's memory; its parts are lent as load and a run have them.
 pub fn sound_header(
     core: &[u64],
     queue: &[u64],

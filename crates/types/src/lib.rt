@@ -20,7 +20,7 @@ pub mod modifier;
 pub mod opcode;
 
 // Whether the codes are in range.
-fn in_range(opcode: u8, a_mode: u8, b_mode: u8) -> bool
+pub fn in_range(opcode: u8, a_mode: u8, b_mode: u8) -> bool
     ensures { result ≡ ranged opcode a_mode b_mode }
 {
     opcode <= STP as u8
