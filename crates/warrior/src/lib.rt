@@ -50,7 +50,7 @@ fn slot_of(names: &mut Roster, processes: &mut Processes, name: &[u8]) -> u8
     next
 }
 
-// Loads a warrior into the parts of a record whose header was tested before, and does not test it again; gives its writes. An empty name is Warrior0.
+// Loads a warrior into the parts of a record whose header was tested before, and does not test it again; gives its writes. An empty name is Warrior0. The parts are lent one by one: of two `&mut` in a struct the check knows the lengths alone once the struct is gone.
 pub fn load_parts(
     core: &mut [u64],
     queue: &mut [u64],
