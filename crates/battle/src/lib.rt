@@ -11,13 +11,14 @@ use printing::{TEXT_SIZE, put_refusal, put_run};
 mod playing;
 
 // Plays a match file: puts every byte that is to be printed at the start of the memory lent for it, and gives how many they are.
+// No text is given back: there is no heap.
 pub fn play(file: &[u8], out: &mut [u8; TEXT_SIZE]) -> usize
     ensures { (out.new ≡ sets out.old 0 (printed file.now)) × (result ≡ length (printed file.now)) × (result ≤ length out.new) }
 {
     let mut core = [0; 8000];
     let mut queue = [0; 2000];
     match play_file(file, &mut core, &mut queue) {
-        Ok(run) => put_run(out, run.answer, run.steps, run.writes, run.header),
+        Ok(run) => put_run(out, run),
         Err(error) => put_refusal(out, Err(error)),
     }
 }

@@ -2,23 +2,24 @@
 -- Assumes nothing.
 use mathlib.Core.Path.{◌≡◌, refl, sym, ap, ◌∙◌}
 use mathlib.Core.Bool.{Bool, true, false, cond, not, ◌&&◌}
-use mathlib.Core.List.{List}
+use mathlib.Core.List.{List, ◌∷◌, ◌++◌}
 use Prim.Native.Nat.{ℕ, ◌≤◌, ◌<◌}
 use native.Mathlib.Omega.{arith}
 use lib.Dec.{eqb, ltb}
 use lib.ListN.{get_or}
-use borrow.Author.Tests.{le-leb, lt-leb, lt-ltb, le-ltb, eq-eqb, ne_eqb}
-use Rattle.answer.specs.Numbers.{Told, gives}
-use Rattle.program.specs.Program.{instructions, lowest_fault, fault_in}
-use Rattle.program.proofs.Bodies.{fault_is, no_fault}
+use borrow.Author.Tests.{lt-ltb, le-ltb, eq-eqb, ne_eqb}
+use Rattle.answer.specs.declared.Error.{Error}
+use Rattle.answer.specs.Numbers.{Told, gives, told_error}
 use Rattle.std.proofs.Common.{Some, None}
-use Rattle.metadata.specs.Metadata.{valid_name, called}
-use Rattle.machine.specs.State.{Machine, accepted, refusal, first, verdict_told}
+use Rattle.metadata.specs.Metadata.{called}
+use Rattle.machine.specs.State.{Machine, Check, check, accepted, refusal, first, verdict_told}
 use Rattle.machine.specs.Names.{slot, is_new, seventeenth}
+use Rattle.machine.specs.Load.{start_checks}
 use Rattle.machine.specs.Queue.{full}
 use Rattle.names.specs.Finding.{found}
 use Rattle.names.proofs.Naming.{held_at, held-lt, not_held}
-use Rattle.load_checks.specs.Refusal.{tested_checks, tested_told}
+use Rattle.load_checks.specs.Refusal.{tested_checks, tested_told, warrior_checks, warrior_told}
+use Rattle.load_checks.proofs.Warrior.{warrior-refused, warrior-accepted}
 
 either : {A : Type 0} (b : Bool) (x : A) → cond b x x ≡ x
 either true x = refl
@@ -36,72 +37,58 @@ module _ (m : Machine) (name body : List ℕ) (place : ℕ) where
     s : ltb 16 m.header.names.held ≡ false
     s = le-ltb 16 m.header.names.held few
 
-    pub too_long : {count : ℕ} → count ≡ instructions body → m.header.rules.size < count → Gives (gives 3 0)
+    abbrev rest : List Check
+    rest = check (seventeenth m.header.names (called name)) 6 ∷ start_checks m name
+
+    past : first (tested_checks m name body place) ≡ first (warrior_checks m.header.rules.size name body place ++ rest)
+    past = ap (λ (b : Bool). cond b (refusal 9 0) (first (warrior_checks m.header.rules.size name body place ++ rest))) s
+
+    pub refused : (e : Error) → told_error e ≡ warrior_told m.header.rules.size name body place → Gives (told_error e)
     unfolding tested_told
-    too_long e h = simp (s, lt-ltb m.header.rules.size (instructions body) (omega arith))
+    refused e is = warrior-refused m.header.rules.size name body place rest e is ∙ ap verdict_told (sym past)
 
-    module _ {count : ℕ} (ec : count ≡ instructions body) (l : count ≤ m.header.rules.size) where
-      fits : ltb m.header.rules.size (instructions body) ≡ false
-      fits = le-ltb m.header.rules.size (instructions body) (omega arith)
+    module _ (taken : gives 0 0 ≡ warrior_told m.header.rules.size name body place) where
+      at_rest : first (tested_checks m name body place) ≡ first rest
+      at_rest = past ∙ warrior-accepted m.header.rules.size name body place rest taken
 
-      pub faulty : {fault : ℕ} → Some fault ≡ fault_in body → Gives (gives 4 fault)
+      pub no_slot : full m (slot m.header.names (called name)) ≡ true → Gives (gives 6 0)
       unfolding tested_told
-      faulty e =
-          let f = fault_is body e in
-          rw f.0 (simp (s, fits, f.1))
+      no_slot h = ap verdict_told {x = refusal 6 0} (sym (at_rest ∙ simp (h, either)))
 
-      module _ (none : None ≡ fault_in body) where
-        lawful-body : ltb (lowest_fault body) (instructions body) ≡ false
-        lawful-body = no_fault body none
+      module _ (r : full m (slot m.header.names (called name)) ≡ false) where
+        reached : first (tested_checks m name body place)
+            ≡ cond (seventeenth m.header.names (called name)) (refusal 6 0)
+            (cond (not (is_new m.header.names (called name)) && eqb (get_or m.header.threads (slot m.header.names (called name)) 0) 4294967295) (refusal 8 0) accepted)
+        reached = at_rest ∙ simp r
 
-        pub bad-name : valid_name name ≡ false → Gives (gives 5 0)
-        unfolding tested_told
-        bad-name h = simp (s, fits, lawful-body, h)
+        -- a name that is held
+        module _ {i : ℕ} (at : Some i ≡ found m.header.names (called name)) where
+          old : is_new m.header.names (called name) ≡ false
+          old = (held_at m.header.names (called name) at).0
 
-        module _ (v : valid_name name ≡ true) where
-          pub bad-place : m.header.rules.size ≤ place → Gives (gives 5 0)
+          index_is : i ≡ slot m.header.names (called name)
+          index_is = (held_at m.header.names (called name) at).1
+
+          pub below : i < 16
+          below = let l : i < m.header.names.held = held-lt m.header.names (called name) at in omega arith
+
+          pub no_number : get_or m.header.threads i 0 ≡ 4294967295 → Gives (gives 8 0)
           unfolding tested_told
-          bad-place h = simp (s, fits, lawful-body, v, le-leb m.header.rules.size place h)
+          no_number e = ap verdict_told {x = refusal 8 0} (sym (reached ∙ simp (old, ← index_is, eq-eqb _ _ e)))
 
-          module _ (p : place < m.header.rules.size) where
-            pub no_slot : full m (slot m.header.names (called name)) ≡ true → Gives (gives 6 0)
-            unfolding tested_told
-            no_slot h = simp (s, fits, lawful-body, v, lt-leb m.header.rules.size place p, h, either)
+          pub passed_held : (get_or m.header.threads i 0 ≡ 4294967295 → ⊥) → Gives (gives 0 0)
+          unfolding tested_told
+          passed_held e = ap verdict_told {x = accepted} (sym (reached ∙ simp (old, ← index_is, ne_eqb _ _ e)))
 
-            module _ (r : full m (slot m.header.names (called name)) ≡ false) where
-              reached : first (tested_checks m name body place)
-                  ≡ cond (seventeenth m.header.names (called name)) (refusal 6 0)
-                  (cond (not (is_new m.header.names (called name)) && eqb (get_or m.header.threads (slot m.header.names (called name)) 0) 4294967295) (refusal 8 0) accepted)
-              reached = simp (s, fits, lawful-body, v, lt-leb m.header.rules.size place p, r)
+        -- one that is not
+        module _ (absent : None ≡ found m.header.names (called name)) where
+          new : is_new m.header.names (called name) ≡ true
+          new = not_held m.header.names (called name) few absent
 
-              -- a name that is held
-              module _ {i : ℕ} (at : Some i ≡ found m.header.names (called name)) where
-                old : is_new m.header.names (called name) ≡ false
-                old = (held_at m.header.names (called name) at).0
+          pub no_index : m.header.names.held ≡ 16 → Gives (gives 6 0)
+          unfolding tested_told
+          no_index e = ap verdict_told {x = refusal 6 0} (sym (reached ∙ simp (new, eq-eqb _ _ e)))
 
-                index_is : i ≡ slot m.header.names (called name)
-                index_is = (held_at m.header.names (called name) at).1
-
-                pub below : i < 16
-                below = let l : i < m.header.names.held = held-lt m.header.names (called name) at in omega arith
-
-                pub no_number : get_or m.header.threads i 0 ≡ 4294967295 → Gives (gives 8 0)
-                unfolding tested_told
-                no_number e = ap verdict_told {x = refusal 8 0} (sym (reached ∙ simp (old, ← index_is, eq-eqb _ _ e)))
-
-                pub passed_held : (get_or m.header.threads i 0 ≡ 4294967295 → ⊥) → Gives (gives 0 0)
-                unfolding tested_told
-                passed_held e = ap verdict_told {x = accepted} (sym (reached ∙ simp (old, ← index_is, ne_eqb _ _ e)))
-
-              -- one that is not
-              module _ (absent : None ≡ found m.header.names (called name)) where
-                new : is_new m.header.names (called name) ≡ true
-                new = not_held m.header.names (called name) few absent
-
-                pub no_index : m.header.names.held ≡ 16 → Gives (gives 6 0)
-                unfolding tested_told
-                no_index e = ap verdict_told {x = refusal 6 0} (sym (reached ∙ simp (new, eq-eqb _ _ e)))
-
-                pub passed_new : (m.header.names.held ≡ 16 → ⊥) → Gives (gives 0 0)
-                unfolding tested_told
-                passed_new e = ap verdict_told {x = accepted} (sym (reached ∙ simp (new, ne_eqb _ _ e)))
+          pub passed_new : (m.header.names.held ≡ 16 → ⊥) → Gives (gives 0 0)
+          unfolding tested_told
+          passed_new e = ap verdict_told {x = accepted} (sym (reached ∙ simp (new, ne_eqb _ _ e)))

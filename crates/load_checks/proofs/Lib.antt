@@ -1,2 +1,3 @@
 pub mod Index
+pub mod Warrior
 pub mod Checking

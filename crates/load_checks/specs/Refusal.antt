@@ -1,7 +1,9 @@
--- What load answers past the test of the header, by its order of checks (01, 'Load').
+-- What load answers past the test of the header, by its order of checks (01, 'Load'), and what it answers of M and a warrior.
 -- Believed. Assumes nothing.
-use Rattle.std.specs.Prelude.{ℕ, List, ◌∷◌, ◌++◌, ltb}
+use Rattle.std.specs.Prelude.{ℕ, not, ◌||◌, List, [], ◌∷◌, ◌++◌, leb, ltb}
 use Rattle.answer.specs.Numbers.{Told}
+use Rattle.metadata.specs.Metadata.{valid_name}
+use Rattle.program.specs.Program.{instructions, lowest_fault}
 use Rattle.machine.specs.State.{Machine, Check, check, first, verdict_told}
 use Rattle.machine.specs.Load.{place_checks, start_checks}
 
@@ -12,3 +14,14 @@ tested_checks m name body place = check (ltb 16 m.header.names.held) 9 ∷ (plac
 -- the number and value of the first row that applies, 0 where none does
 unfoldable pub tested_told : Machine → List ℕ → List ℕ → ℕ → Told
 tested_told m name body place = verdict_told (first (tested_checks m name body place))
+
+-- of them what M and the warrior decide: 3 longer than M, 4 a faulty instruction, with its index, 5 its name or place
+abbrev pub warrior_checks : ℕ → List ℕ → List ℕ → ℕ → List Check
+warrior_checks size name body place =
+    check (ltb size (instructions body)) 3
+    ∷ record { applies = ltb (lowest_fault body) (instructions body); number = 4; value = lowest_fault body }
+    ∷ check (not (valid_name name) || leb size place) 5
+    ∷ []
+
+unfoldable pub warrior_told : ℕ → List ℕ → List ℕ → ℕ → Told
+warrior_told size name body place = verdict_told (first (warrior_checks size name body place))

@@ -4,7 +4,7 @@
 ghost use Rattle.std.specs.Prelude.{◌≡◌, []};
 ghost use Rattle.answer.specs.Numbers.{told};
 ghost use Rattle.lent.specs.Parts.{parts};
-ghost use Rattle.load_checks.specs.Refusal.{tested_told};
+ghost use Rattle.load_checks.specs.Refusal.{tested_told, warrior_told};
 
 use answer::{Answer, Error};
 use machine::limits::{LAST_NUMBER, MOST_NAMES};
@@ -13,6 +13,23 @@ use metadata::{Warrior, called, valid_name};
 use names::find;
 use program::{len, lowest_fault};
 use queue::full;
+
+// The answer of the first check of M and a warrior that applies, the same for load and for writing.
+#[tactic(auto, unfolding(crate::specs::Refusal::warrior_told))]
+pub fn warrior_refusal(size: u32, w: Warrior<'_>) -> Answer
+    ensures { told result ≡ warrior_told size w.entry.name.now w.entry.body.now w.entry.place }
+{
+    if (size as usize) < len(w.body) {
+        return Err(Error::WarriorTooLong);
+    }
+    if let Some(fault) = lowest_fault(w.body) {
+        return Err(Error::InvalidCode(fault));
+    }
+    if !valid_name(w.name) || size <= w.place {
+        return Err(Error::InvalidNameOrPlace);
+    }
+    Ok(())
+}
 
 // The answer of the first check of load that applies past the test of the header; an empty name is Warrior0.
 pub fn refusal(
@@ -27,18 +44,7 @@ pub fn refusal(
     if names.held > MOST_NAMES {
         return Err(Error::UnsoundRecord);
     }
-    if (rules.size as usize) < len(w.body) {
-        return Err(Error::WarriorTooLong);
-    }
-    if let Some(fault) = lowest_fault(w.body) {
-        return Err(Error::InvalidCode(fault));
-    }
-    if !valid_name(w.name) {
-        return Err(Error::InvalidNameOrPlace);
-    }
-    if rules.size <= w.place {
-        return Err(Error::InvalidNameOrPlace);
-    }
+    warrior_refusal(rules.size, w)?;
     if full(queue, processes) {
         return Err(Error::NoRoom);
     }

@@ -5,8 +5,8 @@ ghost use Rattle.answer.specs.Numbers.{told};
 ghost use Rattle.printing.specs.Text as spec;
 ghost use Rattle.printing.specs.Text.{Puts};
 
-use answer::{Answer, number, value};
-use machine::Header;
+use answer::{Answer, Error, number};
+use machine::Outcome;
 use machine::limits::MOST_NAMES;
 use text::Text;
 
@@ -19,37 +19,30 @@ pub const TEXT_SIZE: usize = 16384;
 pub fn put_refusal(out: &mut [u8; TEXT_SIZE], answer: Answer) -> usize
     ensures { Puts out.old out.new 0 result (spec.refusal_text (told answer)) }
 {
-    let which = number(answer);
     let mut line = Text::new(out);
-    line.decimal(which as u64);
-    if which == 13 {
+    line.decimal(number(answer) as u64);
+    if let Err(Error::Malformed(position)) = answer {
         line.byte(b' ');
-        line.decimal(value(answer) as u64);
+        line.decimal(position as u64);
     }
     line.byte(b'\n');
     line.length
 }
 
 // Puts the lines of a run: answer, steps and writes, then the names; none where the header holds more than 16 names.
-pub fn put_run(
-    out: &mut [u8; TEXT_SIZE],
-    answer: Answer,
-    steps: u64,
-    writes: u64,
-    h: Header,
-) -> usize
-    ensures { Puts out.old out.new 0 result (spec.run_text_if (told answer).number steps writes h) }
+pub fn put_run(out: &mut [u8; TEXT_SIZE], run: Outcome) -> usize
+    ensures { Puts out.old out.new 0 result (spec.run_text_if (told run.answer).number run.steps run.writes run.header) }
 {
-    if h.names.held > MOST_NAMES {
+    if run.header.names.held > MOST_NAMES {
         return 0;
     }
     let mut lines = Text::new(out);
-    lines.decimal(number(answer) as u64);
+    lines.decimal(number(run.answer) as u64);
     lines.byte(b' ');
-    lines.decimal(steps);
+    lines.decimal(run.steps);
     lines.byte(b' ');
-    lines.decimal(writes);
+    lines.decimal(run.writes);
     lines.byte(b'\n');
-    lines.names(h);
+    lines.names(run.header);
     lines.length
 }

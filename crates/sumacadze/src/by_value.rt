@@ -4,18 +4,18 @@ ghost use Rattle.lent.specs.Parts.{header_of, processes_of};
 ghost use Rattle.sumacadze.specs.Report.{reported, ceiling_if};
 
 use crate::Report;
-use answer::{Answer, number, value};
+use answer::{number, value};
 use machine::{Header, Outcome};
 
-// An answer with its writes and steps.
-pub(crate) fn in_numbers(answer: Answer, writes: u64, steps: u64) -> Report
-    ensures { result ≡ reported answer writes steps }
+// The answer of a call, with its writes and steps.
+pub(crate) fn in_numbers(s: &Outcome) -> Report
+    ensures { result ≡ reported s.now.answer s.now.writes s.now.steps }
 {
     Report {
-        number: number(answer),
-        value: value(answer),
-        writes,
-        steps,
+        number: number(s.answer),
+        value: value(s.answer),
+        writes: s.writes,
+        steps: s.steps,
     }
 }
 
@@ -28,7 +28,7 @@ pub(crate) fn hand_back(header: &mut Header, s: &Outcome) -> Report
     header.steps = s.header.steps;
     header.counts = s.header.counts;
     header.threads = s.header.threads;
-    in_numbers(s.answer, s.writes, s.steps)
+    in_numbers(s)
 }
 
 // A ceiling, where one is said.

@@ -113,7 +113,7 @@ pub fn sumacadze_load(
     };
     let s = warrior::load(core, queue, *header, w);
     *header = s.header;
-    in_numbers(s.answer, s.writes, s.steps)
+    in_numbers(&s)
 }
 
 // Executes one instruction of the process at the front.

@@ -30,13 +30,10 @@ pub fn sumacadze_load_match(
         × (result.warrior ≡ (load_match (machine_of core.old queue.old header) file.now).warrior) }
 {
     let s = match_load::load_match(core, queue, header, file);
-    let o = s.outcome;
-    let answer = o.answer;
-    let left = o.header;
-    let report = in_numbers(answer, o.writes, o.steps);
+    let report = in_numbers(&s.outcome);
     Loads {
         report,
         warrior: s.warrior,
-        header: left,
+        header: s.outcome.header,
     }
 }

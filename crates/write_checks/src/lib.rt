@@ -6,9 +6,9 @@ ghost use Rattle.answer.specs.Numbers.{told};
 ghost use Rattle.write_checks.specs.Refusal.{write_told};
 
 use answer::{Answer, Error};
+use load_checks::warrior_refusal;
 use machine::limits::LARGEST_CORE;
-use metadata::{Warrior, valid_name};
-use program::{len, lowest_fault};
+use metadata::Warrior;
 
 // Whether n warriors with bodies of `rest` bytes, and one more with a body of `len` bytes, are at most 16 and fit the output.
 fn has_room(n: usize, rest: usize, len: usize, room: usize) -> bool
@@ -25,15 +25,7 @@ pub fn refusal(n: usize, rest: usize, size: u32, w: Warrior<'_>, room: usize) ->
     if !(1..=LARGEST_CORE).contains(&size) {
         return Err(Error::InvalidCoreSize);
     }
-    if (size as usize) < len(w.body) {
-        return Err(Error::WarriorTooLong);
-    }
-    if let Some(index) = lowest_fault(w.body) {
-        return Err(Error::InvalidCode(index));
-    }
-    if !valid_name(w.name) || size <= w.place {
-        return Err(Error::InvalidNameOrPlace);
-    }
+    warrior_refusal(size, w)?;
     if !has_room(n, rest, w.body.len(), room) {
         return Err(Error::NoRoom);
     }

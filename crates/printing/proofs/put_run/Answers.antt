@@ -6,12 +6,12 @@ use Rattle.printing.proofs.Adding.{then, from-start}
 use Rattle.printing.proofs.Lines.{run-text, no_text}
 use Rattle.printing.proofs.put_run.Goals as goal
 
-pub returns-then-h-gt-MOST_NAMES : goal.returns-then-h-gt-MOST_NAMES
-returns-then-h-gt-MOST_NAMES c = no_text _ c.args.steps c.args.writes c.args.h c.args.out.now c.if-h-gt-MOST_NAMES.true
+pub returns-then-run-gt-MOST_NAMES : goal.returns-then-run-gt-MOST_NAMES
+returns-then-run-gt-MOST_NAMES c = no_text _ c.args.run.steps c.args.run.writes c.args.run.header c.args.out.now c.if-run-gt-MOST_NAMES.true
 
 pub returns : goal.returns
 returns c =
-    run-text _ c.args.steps c.args.writes c.args.h c.if-h-gt-MOST_NAMES.false
+    run-text _ c.args.run.steps c.args.run.writes c.args.run.header c.if-run-gt-MOST_NAMES.false
     (from-start c.new-lines.ensures.same_bytes c.new-lines.ensures.empty
     (then (subst (λ n. Adds c.new-lines.result c.decimal.new.self (decimal n)) c.number.ensures c.decimal.ensures.adds)
     (then c.byte.ensures
