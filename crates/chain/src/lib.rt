@@ -7,7 +7,7 @@ ghost use Rattle.cell.specs.Cells.{unpacked, sound_word};
 ghost use Rattle.machine.specs.Pointers as spec;
 ghost use Rattle.machine.specs.Instruction.{b_operand, seen_at};
 ghost use Rattle.chain.specs.Operands.{is_place, compares, operands_at, nothing};
-ghost use Rattle.chain.specs.Inner.Chains.{Placed, word_before, word_after, pointer_by, chains_of};
+ghost use Rattle.chain.specs.Inner.Chains.{Placed, word_before, word_after, pointer_by, chains_of, chains_a, chains_b};
 
 use address::{field_of, word_at};
 use cell::sound;
@@ -151,31 +151,29 @@ fn is_place(core: &[u64], rules: Rules, pc: Absolute) -> bool
         & (1 <= rules.write)
 }
 
-// Whether the other cells that the instruction at PC reads are sound. B goes by the word that A leaves; nothing is written.
+// Both operands' chains: A's in the core as it is, B's in the one with the word that A leaves. Nothing is written.
+fn follow_both(core: &[u64], rules: Rules, pc: Absolute) -> (Chains, Chains)
+    requires { Placed rules core.now pc.0 }
+    ensures { (result.0 ≡ chains_a (spec.site_at rules pc.0) core.now) × (result.1 ≡ chains_b (spec.site_at rules pc.0) core.now) }
+{
+    let here = core[pc.0 as usize];
+    let a = follow(core, rules, pc, a_mode(here), number(here, A), pc, here);
+    let location = a.location;
+    let left = a.left;
+    let m = number(word_at(pc, here, location, left), B);
+    let b = follow(core, rules, pc, b_mode(here), m, location, left);
+    (a, b)
+}
+
+// Whether the other cells that the instruction at PC reads are sound.
 pub fn readable(core: &[u64], rules: Rules, pc: Absolute) -> bool
     ensures { result ≡ (is_place rules core.now pc.0 && every (sound_word rules.size) (seen_at (spec.site_at rules pc.0) core.now)) }
 {
     if !is_place(core, rules, pc) {
         return false;
     }
-    let here = core[pc.0 as usize];
-    let a = follow(core, rules, pc, a_mode(here), number(here, A), pc, here);
-    let location = a.location;
-    let left = a.left;
-    if !sound_chains(a, rules.size) {
-        return false;
-    }
-    let again = word_at(pc, here, location, left);
-    let b = follow(
-        core,
-        rules,
-        pc,
-        b_mode(here),
-        number(again, B),
-        location,
-        left,
-    );
-    sound_chains(b, rules.size)
+    let (a, b) = follow_both(core, rules, pc);
+    sound_chains(a, rules.size) & sound_chains(b, rules.size)
 }
 
 // Where B meets the instruction: a comparison looks at the read pointer, everything else stores at the write pointer.
@@ -202,24 +200,14 @@ pub fn evaluate(core: &mut [u64], rules: Rules, pc: Absolute) -> Operands
             rb: 0,
         };
     }
-    let i = pc.0 as usize;
-    let here = core[i];
-    let a = follow(core, rules, pc, a_mode(here), number(here, A), pc, here);
-    let jump = a.read;
-    let location = a.location;
-    let first = location.0 as usize;
-    core[first] = a.left;
-    let again = core[i];
-    let b = follow(core, rules, pc, b_mode(here), number(again, B), pc, again);
-    let read = b.read;
-    let write = b.write;
-    let after = b.location;
-    let second = after.0 as usize;
-    core[second] = b.left;
+    let here = core[pc.0 as usize];
+    let (a, b) = follow_both(core, rules, pc);
+    core[a.location.0 as usize] = a.left;
+    core[b.location.0 as usize] = b.left;
     Operands {
-        jump,
+        jump: a.read,
         ra: a.register,
-        target: met(here, read, write),
+        target: met(here, b.read, b.write),
         rb: b.register,
     }
 }
