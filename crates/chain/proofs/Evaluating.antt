@@ -1,7 +1,7 @@
 -- Laws of both operands of an instruction: the A operand's chains are followed in the core, the B operand's in the one that A leaves.
 -- Assumes nothing.
 use mathlib.Core.Path.{◌≡◌, refl, sym, ap, ap₂, ◌∙◌}
-use mathlib.Core.Bool.{Bool, true, cond, ◌&&◌}
+use mathlib.Core.Bool.{Bool, true, false, cond, ◌&&◌}
 use mathlib.Core.List.{List, [], ◌∷◌}
 use Prim.Native.Nat.{ℕ, ◌<◌}
 use lib.Dec.{eqb, leb, ltb}
@@ -16,12 +16,12 @@ use Rattle.cell.specs.Cells.{unpacked, sound_word}
 use Rattle.machine.specs.declared.Rules.{Rules}
 use Rattle.machine.specs.Soundness.{divides, valid_limits}
 use Rattle.machine.specs.Pointers.{Site, site_at, Operand, operand}
-use Rattle.machine.specs.Instruction.{a_operand, b_operand, seen_at}
+use Rattle.machine.specs.Instruction.{fetched, a_operand, b_operand, seen_at}
 use Rattle.machine.proofs.Pointers.{length-operand}
 use Rattle.address.proofs.Pointing.{word_of}
 use Rattle.chain.specs.declared.Chains.{Chains}
 use Rattle.chain.specs.Operands.{is_place, compares, absolute, operands_at}
-use Rattle.chain.specs.Inner.Chains.{Placed, chains_of, chains_a, chains_b}
+use Rattle.chain.specs.Inner.Chains.{Placed, chains_of}
 use Rattle.chain.proofs.Chaining.{l-below, core_is}
 
 pub is-placed : (rules : Rules) (core : List ℕ) (pc : ℕ) → is_place rules core pc ≡ true → Placed rules core pc
@@ -38,6 +38,11 @@ place_is rules core pc cells place limits =
     let r = both (leb 1 rules.read) _ b.0 in
     let w = both (leb 1 rules.write) _ b.1 in
     simp (eq-eqb _ _ cells, lt-ltb _ _ place, r.0, w.0)
+
+-- the core with the word that it has
+pub same-core : (rules : Rules) (pc : ℕ) (core : List ℕ) (mode n : ℕ) {c : Chains} → c ≡ chains_of (site_at rules pc) (set core pc (get_or core pc 0)) mode n
+    → c ≡ chains_of (site_at rules pc) core mode n
+same-core rules pc core mode n e = e ∙ ap (λ (x : List ℕ). chains_of (site_at rules pc) x mode n) (set-get_or core pc 0)
 
 -- the words that an operand reads
 abbrev pub words : Chains → List ℕ
@@ -91,76 +96,75 @@ module _ (rules : Rules) (core : List ℕ) (pc : ℕ) (p : Placed rules core pc)
   seen-both : every (sound_word size) (seen_at site core) ≡ (every (sound_word size) first.seen && every (sound_word size) last.seen)
   seen-both = every-join (sound_word size) first.seen last.seen
 
-  -- what the code follows, of the word at PC and of the one that A leaves
+  -- the A operand, of the word at PC
   module _ {w am n : ℕ} (ew : w ≡ get_or core pc 0) (em : am ≡ (unpacked w).a_mode) (en : n ≡ (unpacked w).a.0)
       {c : Chains} (ec : c ≡ chains_of site (set core pc w) am n) where
-    pub a-is : c ≡ chains_a site core
+    a-is : c ≡ chains_of site core (fetched core pc).a_mode (fetched core pc).a.0
     a-is = ec ∙ rw (em, en, ew, set-get_or core pc 0)
 
-    below : c.location.0 < length core
-    below = rw a-is (location-below rules core pc _ _ p)
-
-    left-is : set core c.location.0 c.left ≡ first.core
-    left-is = rw a-is (left-core rules core pc _ _ p)
-
-    again-is : {again : ℕ} → again ≡ cond (eqb pc c.location.0) c.left w → again ≡ get_or first.core pc 0
-    again-is e = e ∙ rw ew (word_of core pc c.location.0 c.left below) ∙ ap (λ (x : List ℕ). get_or x pc 0) left-is
-
-    pub b-is : {again bm m : ℕ} → again ≡ cond (eqb pc c.location.0) c.left w → bm ≡ (unpacked w).b_mode → m ≡ (unpacked again).b.0
-        → {d : Chains} → d ≡ chains_of site (set core c.location.0 c.left) bm m → d ≡ chains_b site core
-    b-is eg eb em ed = ed ∙ rw (eb, em, again-is eg, left-is, ew)
-
-  -- both operands' chains
-  module _ {c d : Chains} (ec : c ≡ chains_a site core) (ed : d ≡ chains_b site core) where
-    b-place : Placed rules first.core pc
-    b-place = placed-after rules core pc _ _ p
-
     pub a-below : c.location.0 < length core
-    a-below = rw ec (location-below rules core pc _ _ p)
+    a-below = rw a-is (location-below rules core pc _ _ p)
 
-    a-core : set core c.location.0 c.left ≡ first.core
-    a-core = rw ec (left-core rules core pc _ _ p)
-
-    pub b-below : d.location.0 < length (set core c.location.0 c.left)
-    b-below = rw (a-core, ed) (location-below rules first.core pc _ _ b-place)
-
-    pub b-core : set (set core c.location.0 c.left) d.location.0 d.left ≡ last.core
-    b-core = rw (a-core, ed) (left-core rules first.core pc _ _ b-place)
+    pub a-core : set core c.location.0 c.left ≡ first.core
+    a-core = rw a-is (left-core rules core pc _ _ p)
 
     a-words : words c ≡ first.seen
-    a-words = ap words ec ∙ words_are rules core pc _ _ p
+    a-words = ap words a-is ∙ words_are rules core pc _ _ p
 
-    b-words : words d ≡ last.seen
-    b-words = ap words ed ∙ words_are rules first.core pc _ _ b-place
+    pub a_read : c.read ≡ absolute first.read
+    a_read = ap (λ (x : Chains). x.read) a-is ∙ read_of rules core pc _ _ p
 
-    pub both-sound : {q r : Bool} → q ≡ every (sound_word size) (words c) → r ≡ every (sound_word size) (words d) → is_place rules core pc ≡ true
-        → (q && r) ≡ (is_place rules core pc && every (sound_word size) (seen_at site core))
-    both-sound eq er place =
-        ap₂ ◌&&◌ (eq ∙ ap (every (sound_word size)) a-words) (er ∙ ap (every (sound_word size)) b-words)
-        ∙ sym (ap₂ ◌&&◌ place seen-both)
+    pub a-register : c.register ≡ get_or first.seen 2 0
+    a-register = ap (λ (x : Chains). x.register) a-is ∙ register_of rules core pc _ _ p
 
-    a_read : c.read ≡ absolute first.read
-    a_read = ap (λ (x : Chains). x.read) ec ∙ read_of rules core pc _ _ p
+    -- the word at PC afterwards
+    pub again-is : {again : ℕ} → again ≡ cond (eqb pc c.location.0) c.left w → again ≡ get_or (set core c.location.0 c.left) pc 0
+    again-is e = e ∙ rw ew (word_of core pc c.location.0 c.left a-below)
 
-    a-register : c.register ≡ get_or first.seen 2 0
-    a-register = ap (λ (x : Chains). x.register) ec ∙ register_of rules core pc _ _ p
+    pub a-unsound : {r : Bool} → r ≡ every (sound_word size) (words c) → r ≡ false → is_place rules core pc ≡ true
+        → false ≡ (is_place rules core pc && every (sound_word size) (seen_at site core))
+    a-unsound er f place = rw (place, seen-both, ← a-words, ← er, f)
 
-    b-read : d.read ≡ absolute last.read
-    b-read = ap (λ (x : Chains). x.read) ed ∙ read_of rules first.core pc _ _ b-place
+    -- the B operand, its number read again from the core that A leaves
+    module _ (after : List ℕ) (ea : after ≡ first.core) {bm m : ℕ} (eb : bm ≡ (unpacked w).b_mode) (eg : m ≡ (unpacked (get_or after pc 0)).b.0)
+        {d : Chains} (ed : d ≡ chains_of site after bm m) where
+      b-is : d ≡ chains_of site first.core (fetched core pc).b_mode (fetched first.core pc).b.0
+      b-is = ed ∙ rw (eb, eg, ea, ew)
 
-    b-write : d.write ≡ absolute last.write
-    b-write = ap (λ (x : Chains). x.write) ed ∙ write-of rules first.core pc _ _ b-place
+      b-place : Placed rules first.core pc
+      b-place = placed-after rules core pc _ _ p
 
-    b-register : d.register ≡ get_or last.seen 2 0
-    b-register = ap (λ (x : Chains). x.register) ed ∙ register_of rules first.core pc _ _ b-place
+      pub b-below : d.location.0 < length after
+      b-below = rw (ea, b-is) (location-below rules first.core pc _ _ b-place)
 
-    -- what both operands give
-    pub given : {w : ℕ} {target : Absolute} → w ≡ get_or core pc 0 → target ≡ cond (compares (unpacked w).opcode) d.read d.write
-        → record { jump = c.read; ra = c.register; target = target; rb = d.register } ≡ operands_at site core
-    given {w} ew et = λ i.
-        record {
-          jump = a_read i;
-          ra = a-register i;
-          target = (et ∙ ap₂ (cond (compares (unpacked w).opcode)) b-read b-write ∙ ap (λ (v : ℕ). cond (compares (unpacked v).opcode) (absolute last.read) (absolute last.write)) ew) i;
-          rb = b-register i;
-        }
+      pub b-core : set after d.location.0 d.left ≡ last.core
+      b-core = rw (ea, b-is) (left-core rules first.core pc _ _ b-place)
+
+      b-words : words d ≡ last.seen
+      b-words = ap words b-is ∙ words_are rules first.core pc _ _ b-place
+
+      pub b-read : d.read ≡ absolute last.read
+      b-read = ap (λ (x : Chains). x.read) b-is ∙ read_of rules first.core pc _ _ b-place
+
+      pub b-write : d.write ≡ absolute last.write
+      b-write = ap (λ (x : Chains). x.write) b-is ∙ write-of rules first.core pc _ _ b-place
+
+      pub b-register : d.register ≡ get_or last.seen 2 0
+      b-register = ap (λ (x : Chains). x.register) b-is ∙ register_of rules first.core pc _ _ b-place
+
+      pub b-sound : {q r : Bool} → q ≡ every (sound_word size) (words c) → q ≡ true → r ≡ every (sound_word size) (words d) → is_place rules core pc ≡ true
+          → r ≡ (is_place rules core pc && every (sound_word size) (seen_at site core))
+      b-sound eq t er place =
+          er ∙ ap (every (sound_word size)) b-words
+          ∙ sym (ap₂ ◌&&◌ place seen-both ∙ ap (λ (x : Bool). x && every (sound_word size) last.seen) (ap (every (sound_word size)) (sym a-words) ∙ sym eq ∙ t))
+
+      -- what both operands give
+      pub given : {target : Absolute} → target ≡ cond (compares (unpacked w).opcode) d.read d.write
+          → record { jump = c.read; ra = c.register; target = target; rb = d.register } ≡ operands_at site core
+      given et = λ i.
+          record {
+            jump = a_read i;
+            ra = a-register i;
+            target = (et ∙ ap₂ (cond (compares (unpacked w).opcode)) b-read b-write ∙ ap (λ (v : ℕ). cond (compares (unpacked v).opcode) (absolute last.read) (absolute last.write)) ew) i;
+            rb = b-register i;
+          }

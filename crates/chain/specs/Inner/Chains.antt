@@ -6,7 +6,6 @@ use Rattle.types.specs.Types.{Field}
 use Rattle.cell.specs.Cells.{packed, unpacked, number, with_number}
 use Rattle.machine.specs.declared.Rules.{Rules}
 use Rattle.machine.specs.Pointers.{Reach, here, there, through, Shift, keeps, lowers, raises, less, more, fold, located, Site, operand}
-use Rattle.machine.specs.Instruction.{fetched, a_operand}
 use Rattle.chain.specs.declared.Chains.{Chains}
 use Rattle.chain.specs.Operands.{absolute}
 
@@ -49,10 +48,3 @@ chains_of s core mode n =
       there = get_or o.seen 3 0;
       left = get_or o.core location 0;
     }
-
--- the A operand's chains in the core as it is, the B operand's in the one that A leaves
-abbrev pub chains_a : Site → List ℕ → Chains
-chains_a s core = chains_of s core (fetched core s.pc).a_mode (fetched core s.pc).a.0
-
-abbrev pub chains_b : Site → List ℕ → Chains
-chains_b s core = let x = (a_operand s core).core in chains_of s x (fetched core s.pc).b_mode (fetched x s.pc).b.0
