@@ -13,15 +13,7 @@ use types::mode::{POST_INC_INDIRECT_A, PRE_DEC_INDIRECT_A};
 pub fn decrement(n: Relative, size: u32) -> Relative
     ensures { result.0 ≡ decremented size n.0 }
 {
-    if n.0 == 0 {
-        if size == 0 {
-            return n;
-        }
-        let last = size - 1;
-        return Relative(last);
-    }
-    let less = n.0 - 1;
-    Relative(less)
+    Relative(n.0.checked_sub(1).unwrap_or(size.saturating_sub(1)))
 }
 
 // One more than a field number, round the end.

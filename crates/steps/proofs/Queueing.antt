@@ -9,7 +9,7 @@ use native.Mathlib.Omega.{arith}
 use lib.Dec.{eqb}
 use lib.ListN.{length, get_or, set, length-set}
 use lib.Seq.{get_or-set_same, set-set, set-get_or}
-use borrow.Author.Tests.{lt-leb}
+use borrow.Author.Tests.{leb-false}
 use Rattle.std.specs.Prelude.{Result, Ok}
 use Rattle.answer.specs.declared.Error.{Error}
 use Rattle.answer.specs.Numbers.{told, gives}
@@ -68,7 +68,13 @@ module _ (queue : List ℕ) (p : Processes) (place name : ℕ) where
   abbrev pub grown : Machine
   grown = cond (full lent name) lent (started place name lent)
 
-  pub starts : {tail v : ℕ} {q : List ℕ} → p.ring.length < length queue → tail ≡ tail_of lent → v ≡ packed_entry (entry place (get_or p.threads name 0) name) → q ≡ set queue tail v
+  pub keeps : full lent name ≡ true → lent ≡ grown
+  keeps h = sym (ap (λ (b : Bool). cond b lent (started place name lent)) h)
+
+  pub room : full lent name ≡ false → p.ring.length < length queue
+  room h = leb-false _ _ h
+
+  pub starts : {tail v : ℕ} {q : List ℕ} → full lent name ≡ false → tail ≡ tail_of lent → v ≡ packed_entry (entry place (get_or p.threads name 0) name) → q ≡ set queue tail v
       → queue_of q
       (record { ring = ring_of p.ring.head (p.ring.length + 1); steps = p.steps; counts = set p.counts name (get_or p.counts name 0 + 1); threads = set p.threads name (get_or p.threads name 0 + 1) })
       ≡ grown
@@ -77,7 +83,7 @@ module _ (queue : List ℕ) (p : Processes) (place name : ℕ) where
       ap (λ (q : List ℕ). queue_of q (record { ring = ring_of p.ring.head (p.ring.length + 1); steps = p.steps; counts = set p.counts name (get_or p.counts name 0 + 1); threads = set p.threads name (get_or p.threads name 0 + 1) })) f
       ∙ (λ i. queue_of (set queue (t i) (e i))
       (record { ring = ring_of p.ring.head (p.ring.length + 1); steps = p.steps; counts = set p.counts name (get_or p.counts name 0 + 1); threads = set p.threads name (get_or p.threads name 0 + 1) }))
-      ∙ sym (ap (λ (b : Bool). cond b lent (started place name lent)) (lt-leb _ _ h))
+      ∙ sym (ap (λ (b : Bool). cond b lent (started place name lent)) h)
 
   pub started-tail : (v : ℕ) {tail t : ℕ} {q : List ℕ} → tail ≡ tail_of lent → q ≡ set queue tail v → t ≡ ahead (length queue) tail 1 → t ≡ ahead (length q) p.ring.head (p.ring.length + 1)
   started-tail v e g f =

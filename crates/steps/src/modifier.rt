@@ -23,7 +23,7 @@ pub(crate) fn number_at(w: u64, field: Field) -> Relative
     Relative(n)
 }
 
-// The word of a sound cell with another number in a field. By `word::with_number`, which takes any word, and `word::number` a run takes 6 to 8 % more instructions.
+// The word of a sound cell with another number in a field. Such bounds are asked in contracts, here and below, and not carried by a type: words and places are plain numbers that C lends, and a type would be made anew at each read. By `word::with_number`, which takes any word, and `word::number` a run takes 6 to 8 % more instructions.
 pub(crate) fn with_number_at(w: u64, field: Field, n: Relative) -> u64
     requires { (w < 2 ^ 46) × (n.0 < 65536) }
     ensures { result ≡ packed (with_number field n.0 (unpacked w)) }

@@ -46,7 +46,7 @@ fn store(t: u64, t1: Field, n1: Relative, t2: Field, n2: Relative) -> u64
     with_number_at(with_number_at(t, t1, n1), t2, n2)
 }
 
-// ADD a+b, SUB b-a and MUL a×b of two numbers.
+// ADD a+b, SUB b-a and MUL a×b of two numbers. The opcode is asked again here and in `part`, `tests` and `passes`: a function for each opcode would be a twin of its neighbours in all but one line.
 fn value(opcode: u64, size: u32, a: Relative, b: Relative) -> Relative
     requires { (a.0 < size) × (b.0 < size) × (size ≤ 46341) × (2 ≤ opcode) × (opcode < 5) }
     ensures { (some result.0 ≡ value_by opcode size a.0 b.0) × (result.0 < size) }
@@ -169,7 +169,7 @@ impl Scene {
         Executed::Goes(self.onward(), self.writes)
     }
 
-    // DJN: stores b-1 and goes when some result isn't 0.
+    // DJN: stores b-1 and goes when some result isn't 0. The one less is 01's one reducing addition, of M-1, as SUB's difference is.
     fn counts(self, target: &mut u64) -> Executed
         requires { sound_word self.size target.old ≡ true }
         ensures { Does 10 self target.old result target.new }

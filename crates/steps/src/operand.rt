@@ -19,7 +19,7 @@ pub(crate) struct Operand {
     pub register: u64,
 }
 
-// The modes `#` and `$`, which need no second look at the pointer's cell.
+// The modes `#` and `$`, which need no second look at the pointer's cell. `Ready` is asked at each call: it binds the lent core to the rules, and a type that held both would be made anew at each operand.
 fn direct(core: &[u64], rules: Rules, pc: Absolute, mode: u64, n: Relative) -> Operand
     requires { Ready rules core.now pc.0 n.0 × (mode < 2) × (sound_word rules.size (get_or core.now pc.0 0) ≡ true)
         × (sound_seen rules.size (former (spec.site_at rules pc.0) core.now mode n.0) ≡ true) }

@@ -3,7 +3,8 @@ ghost use Rattle.std.specs.Prelude.{◌≡◌, cond, ◌-◌, ◌^◌, ◌<◌, 
 ghost use Rattle.std.proofs.Math.ListN as lists;
 ghost use Rattle.answer.specs.Numbers.{told, told_error, gives};
 ghost use Rattle.offset.specs.Offset.{ahead};
-ghost use Rattle.machine.specs.Queue.{packed_entry, unpacked_entry, entry, full, started};
+ghost use Rattle.machine.specs.Queue as spec;
+ghost use Rattle.machine.specs.Queue.{packed_entry, unpacked_entry, entry, started};
 ghost use Rattle.lent.specs.Parts.{queue_of};
 ghost use Rattle.steps.specs.Inner.Queueing.{Front, Near, Requeued, tail_of, ended};
 
@@ -12,6 +13,7 @@ use answer::{Answer, Error};
 use entry::{pack, unpack};
 use machine::{Entry, Processes};
 use offset::Absolute;
+use queue::full;
 
 // What a step answers, with its writes, and the tail afterwards. Both stand beside a refusal too, so the answer is a field: a Result has no place for them.
 #[derive(Clone, Copy)]
@@ -52,10 +54,10 @@ fn start_child(
 ) -> u32
     requires { (lists.length queue.old ≤ 65535) × (tail ≡ tail_of (queue_of queue.old processes.old)) × (name < 16)
         × (get_or processes.old.threads name 0 ≡ 4294967295 → ⊥) × (get_or processes.old.counts name 0 < 4294967295) }
-    ensures { (queue_of queue.new processes.new ≡ cond (full (queue_of queue.old processes.old) name) (queue_of queue.old processes.old) (started place.0 name (queue_of queue.old processes.old)))
+    ensures { (queue_of queue.new processes.new ≡ cond (spec.full (queue_of queue.old processes.old) name) (queue_of queue.old processes.old) (started place.0 name (queue_of queue.old processes.old)))
         × (result ≡ tail_of (queue_of queue.new processes.new)) }
 {
-    if queue.len() <= processes.ring.length as usize {
+    if full(queue, processes) {
         return tail;
     }
     let who = name as usize;
@@ -90,7 +92,7 @@ fn end_process(processes: &mut Processes, name: u8, end: Error) -> Answer
     Ok(())
 }
 
-// The word of a sound entry at another place.
+// The word of a sound entry at another place. Name and thread stay in the word as they are, so only the place is put in: `entry::pack` would put in all three (DECISIONS has figures for a mask).
 fn moved(w: u64, place: Absolute) -> u64
     requires { (w < 2 ^ 52) × (place.0 < 65536) }
     ensures { result ≡ packed_entry (entry place.0 (unpacked_entry w).thread (unpacked_entry w).name) }
