@@ -92,7 +92,7 @@ pub fn sumacadze_get(core: &[u64], queue: &[u64], header: Header, number: i32) -
     }
 }
 
-// Loads a warrior; an empty name is Warrior0.
+// Loads a warrior, lent part by part as C lends it; an empty name is Warrior0.
 pub fn sumacadze_load(
     core: &mut [u64],
     queue: &mut [u64],
