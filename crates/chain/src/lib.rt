@@ -69,7 +69,7 @@ fn lowered(w: u64, size: u32, mode: u64) -> u64
     w
 }
 
-// The word at the write location once the increment is made.
+// The word at the write location once the increment is made. That the core has cells is asked, here and below: the callers' `is_place` tells it.
 fn raised(w: u64, size: u32, mode: u64) -> u64
     requires { (0 < size) × (mode < 8) }
     ensures { result ≡ word_after (get_or spec.shifts mode spec.keeps) size w (spec.field_of (get_or spec.reaches mode spec.here)) }

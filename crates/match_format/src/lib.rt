@@ -1,4 +1,4 @@
-// The first fault of a match file (01, 'Match file'): its fields are checked in file order.
+// The first fault of a match file (01, 'Match file'): its fields are checked in file order. The layout's numbers, 4, 32 and 43, stand in the code as the promises write them.
 #![tactic(auto)]
 
 ghost use Rattle.std.specs.Prelude.{◌≡◌, ◌+◌, ◌*◌, ◌^◌, ◌≤◌, ◌<◌, length, IfOk, IfErr};

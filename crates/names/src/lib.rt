@@ -41,7 +41,7 @@ pub fn find(names: &Roster, name: &[u8]) -> Option<u32>
     (0..names.held).find(|i| equal(name, name_at(names, *i as usize)))
 }
 
-// Writes a name to a slot of 32 bytes, padded with zeros.
+// Writes a name to a slot of 32 bytes, padded with zeros. That it is no longer is asked, as in `match_write`: a name is bytes that C lends.
 fn write_name(bytes: &mut [u8; 512], slot: usize, name: &[u8])
     requires { (slot < 16) × (length name.now ≤ 32) }
     ensures { bytes.new ≡ sets bytes.old (32 * slot) (name.now ++ replicate (32 - length name.now) 0) }

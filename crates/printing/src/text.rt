@@ -65,7 +65,7 @@ impl<'a> Text<'a> {
         self.byte(b'\n');
     }
 
-    // Puts the names held and their counts.
+    // Puts the names held and their counts. That no more than 16 are held is tested before: C's header may say any number.
     pub(crate) fn names(&mut self, h: Header)
         requires { (self.old.length + 8640 ≤ length self.old.memory.now) × (h.names.held ≤ 16) }
         ensures { Adds self.old self.new (spec.name_lines h 0 h.names.held) }

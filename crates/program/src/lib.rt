@@ -1,4 +1,4 @@
-// The body of a warrior as it is handed in (01, 'Load'): match-file bytes, 12 to an instruction.
+// The body of a warrior as it is handed in (01, 'Load'): match-file bytes, 12 to an instruction. The layout's numbers stand here as the promises write them.
 #![tactic(auto)]
 
 ghost use Rattle.std.specs.Prelude.{◌≡◌};

@@ -52,7 +52,7 @@ fn all_last(numbers: &[u32], steps: u64) -> bool
     numbers.iter().all(|n| lasts(*n, steps))
 }
 
-// Whether every queued entry is sound, and each held name's count is the number of its entries.
+// Whether every queued entry is sound, and each held name's count is the number of its entries. That the ring lies in its memory is asked: `scan` tests it once.
 fn entries_tallied(queue: &[u64], rules: Rules, held: u32, processes: &Processes) -> bool
     requires { (length queue.now ≤ 65535) × (processes.now.ring.head < length queue.now) × (held ≤ 16) }
     ensures { result ≡ (sound_entries (unnamed [] queue.now rules held processes.now)

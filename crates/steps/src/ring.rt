@@ -35,7 +35,7 @@ fn slot_after(slot: u32, slots: u32) -> u32
     0
 }
 
-// Writes a word to the tail's slot: the tail afterwards.
+// Writes a word to the tail's slot: the tail afterwards. That the memory is no longer than fresh takes is asked, here and below: it is lent, and tested once a run.
 fn push(queue: &mut [u64], tail: u32, w: u64) -> u32
     requires { (lists.length queue.old ≤ 65535) × (tail < lists.length queue.old) }
     ensures { (result ≡ ahead (lists.length queue.old) tail 1) × (queue.new ≡ set queue.old tail w) }

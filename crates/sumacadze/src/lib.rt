@@ -38,7 +38,7 @@ pub struct Fresh {
     pub header: Header,
 }
 
-// 01's number, and the fields of a cell.
+// 01's number, and the fields of a cell. As those of file.rt it is made of a Result at one place, where a `From` would have one caller.
 #[repr(C)]
 #[derive(Clone, Copy)]
 pub struct Reading {

@@ -35,7 +35,7 @@ fn origin_of(origin: u16) -> u32
     origin as u32
 }
 
-// The slot of a name; one that is not held is registered in the next.
+// The slot of a name; one that is not held is registered in the next. That no more than 16 are held is what the checks before told.
 fn slot_of(names: &mut Roster, processes: &mut Processes, name: &[u8]) -> u8
     requires { names.old.held ≤ 16 }
     ensures slot { result ≡ slot names.old name.now }
