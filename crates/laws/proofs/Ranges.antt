@@ -1,6 +1,6 @@
 -- Tables looked through by a range of indices, in the words of the library: a test of each, of none, of no two; and a count.
 -- Assumes nothing.
-use mathlib.Core.Path.{◌≡◌, refl, sym, ap, ap₂}
+use mathlib.Core.Path.{◌≡◌, refl, sym, ap, ap₂, ◌∙◌}
 use mathlib.Core.Bool.{Bool, true, false, cond, not, ◌&&◌}
 use mathlib.Core.List.{List}
 use Prim.Native.Nat.{ℕ, zero, suc, ◌+◌, ◌-◌}
@@ -12,6 +12,7 @@ use borrow.Author.Tests.{ne_eqb}
 use Rattle.std.specs.List.{list_all, range_with_len, count_by}
 use Rattle.std.proofs.lemmas.List.Recursion.{is_count_by}
 use Rattle.laws.specs.Lists.{every, tally, table, same, distinct}
+use Rattle.laws.proofs.Tests.{and-false}
 
 module _ {A : Type 0} (f : ℕ → A) (p : A → Bool) where
   -- each passes
@@ -27,6 +28,17 @@ module _ {A : Type 0} (f : ℕ → A) (p : A → Bool) where
       go : (b : Bool) (t : ℕ) {r : Bool} → r ≡ eqb t 0 → (not b && r) ≡ eqb (cond b 1 0 + t) 0
       go true t e = sym (ne_eqb (1 + t) 0 (omega arith))
       go false t e = rw zero-add e
+
+-- each of two tables
+pub each-two : {A B : Type 0} (f : ℕ → A) (p : A → Bool) (g : ℕ → B) (q : B → Bool) (i n : ℕ)
+    → list_all (λ (k : ℕ). p (f k) && q (g k)) (range_with_len i n) ≡ (every p (table f i n) && every q (table g i n))
+each-two f p g q i zero = refl
+each-two f p g q i (suc n) = rw add-one (ap (λ (b : Bool). (p (f i) && q (g i)) && b) (each-two f p g q (suc i) n) ∙ apart (p (f i)) (q (g i)) _ _)
+  where
+    apart : (a b c d : Bool) → ((a && b) && (c && d)) ≡ ((a && c) && (b && d))
+    apart false b c d = refl
+    apart true false c d = sym (and-false c)
+    apart true true c d = refl
 
 -- each is unlike those after it
 pub unlike : (f : ℕ → List ℕ) (i n end : ℕ) → i + n ≡ end

@@ -111,22 +111,6 @@ module _ (body : List ℕ) where
           let at : lowest_fault body ≡ whole = is ∙ rw (t, n, cut) (omega arith) in
           rw (e, t, f, z) (sym (rw at (rw (lt-ltb whole (instructions body) (omega arith)))))
 
--- what the place of a fault, or none, says
-pub fault_is : (body : List ℕ) {fault : ℕ} → Some fault ≡ fault_in body → (fault ≡ lowest_fault body) × (ltb (lowest_fault body) (instructions body) ≡ true)
-fault_is body {fault} e = go (ltb (lowest_fault body) (instructions body)) refl e
-  where
-    go : (t : Bool) → ltb (lowest_fault body) (instructions body) ≡ t → Some fault ≡ cond t (Some (lowest_fault body)) None
-        → (fault ≡ lowest_fault body) × (ltb (lowest_fault body) (instructions body) ≡ true)
-    go true t f = (cc, t)
-    go false t f = (cc, cc)
-
-pub no_fault : (body : List ℕ) → None ≡ fault_in body → ltb (lowest_fault body) (instructions body) ≡ false
-no_fault body e = go (ltb (lowest_fault body) (instructions body)) refl e
-  where
-    go : (t : Bool) → ltb (lowest_fault body) (instructions body) ≡ t → None ≡ cond t (Some (lowest_fault body)) None → ltb (lowest_fault body) (instructions body) ≡ false
-    go true t f = cc
-    go false t f = t
-
 -- the whole instructions of a body
 pub chunk : (n i : ℕ) (body x : List ℕ) → i < n → get_or (first_chunks 12 n body) i x ≡ take 12 (drop (12 * i) body)
 chunk zero i body x h = elim h [ ]

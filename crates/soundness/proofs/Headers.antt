@@ -2,21 +2,20 @@
 -- Assumes nothing.
 use mathlib.Core.Path.{◌≡◌, refl, sym, ap, ◌∙◌}
 use mathlib.Core.Bool.{Bool, true, false, ◌&&◌}
-use mathlib.Core.Logic.{⊎_elim}
 use mathlib.Core.List.{List}
-use Prim.Native.Nat.{ℕ, zero, suc, ◌+◌, ◌≤◌, ◌<◌, zero-le}
-use native.Mathlib.Nat.{zero-add, eq-or-lt_of_le}
-use native.Mathlib.Omega.{arith}
+use Prim.Native.Nat.{ℕ}
 use lib.Dec.{eqb, leb, ltb}
-use lib.ListN.{length, get_or, take}
+use Rattle.std.proofs.Common.{min}
+use Rattle.std.proofs.Math.Nat.{min-eq_left}
+use lib.ListN.{length, take}
 use borrow.Author.Tests.{leb-true}
 use Rattle.laws.specs.Lists.{every, table, total, distinct}
 use Rattle.laws.proofs.Tests.{both, and_assoc, and-true, and-false}
-use Rattle.laws.proofs.Loops.{take-table}
 use Rattle.metadata.specs.Metadata.{valid_byte}
 use Rattle.machine.specs.declared.Rules.{Rules}
 use Rattle.machine.specs.State.{Machine, passes}
-use Rattle.machine.specs.Names.{names}
+use Rattle.machine.specs.declared.Roster.{Roster}
+use Rattle.machine.specs.Names.{name_at}
 use Rattle.machine.specs.Soundness.{valid_limits, fresh_checks, sound_header}
 use Rattle.machine.proofs.Soundness.{taken-tests}
 use Rattle.lent.specs.Parts.{valid_length}
@@ -43,47 +42,47 @@ regrouped true b false d r = and-false b
 regrouped true false true d r = refl
 regrouped true true true d r = refl
 
--- at each place of a table that passes
-every-at : {A : Type 0} (p : A → Bool) (f : ℕ → A) (n i k : ℕ) → every p (table f i n) ≡ true → i ≤ k → k < i + n → p (f k) ≡ true
-every-at p f zero i k t l h = absurd (let z : ⊥ = omega arith in z)
-every-at p f (suc n) i k t l h =
-    let b = both (p (f i)) (every p (table f (suc i) n)) t in
-    ⊎_elim (λ e. ap (λ (j : ℕ). p (f j)) (sym e) ∙ b.0) (λ g. every-at p f n (suc i) k b.1 g (omega arith)) (eq-or-lt_of_le l)
+-- the tests of the first names, which the code makes of those held, of at most 16
+abbrev pub valid_names : Roster → ℕ → Bool
+valid_names r n = every valid_length (take n r.lengths) && every (every valid_byte) (table (name_at r) 0 n)
 
--- where each name has 1 to 32 bytes, none has more
-pub short : (lengths : List ℕ) (held : ℕ) → held ≤ length lengths → every valid_length (take held lengths) ≡ true → (k : ℕ) → k < held → get_or lengths k 0 ≤ 32
-short lengths held l t k h = leb-true (get_or lengths k 0) 32 (both (leb 1 (get_or lengths k 0)) (leb (get_or lengths k 0) 32) valid).1
-  where
-    valid : valid_length (get_or lengths k 0) ≡ true
-    valid = every-at valid_length (λ (i : ℕ). get_or lengths i 0) held 0 k (ap (every valid_length) (sym (take-table 0 lengths held l)) ∙ t) zero-le (rw zero-add h)
+abbrev pub unlike_names : Roster → ℕ → Bool
+unlike_names r n = distinct (table (name_at r) 0 n)
 
 -- the header's tests, numbers first
 module _ (m : Machine) where
+  abbrev held : ℕ
+  held = m.header.names.held
+
   header_is : sound_header m
-      ≡ (numbers m && (every valid_length (take m.header.names.held m.header.names.lengths)
-      && (every (every valid_byte) (names m.header.names) && (distinct (names m.header.names) && eqb (total (take m.header.names.held m.header.counts)) m.header.ring.length))))
+      ≡ (numbers m && (valid_names m.header.names held && (unlike_names m.header.names held && eqb (total (take held m.header.counts)) m.header.ring.length)))
   unfolding sound_header
   header_is =
       let h = m.header in
-      regrouped (passes (fresh_checks h.rules m.core m.queue)) (leb h.ring.length (length m.queue)) (ltb h.ring.head (length m.queue)) (leb h.names.held 16) _ ∙ simp and-true
+      regrouped (passes (fresh_checks h.rules m.core m.queue)) (leb h.ring.length (length m.queue)) (ltb h.ring.head (length m.queue)) (leb h.names.held 16) _
+      ∙ simp (and-true, and_assoc)
 
   pub no-numbers : numbers m ≡ false → false ≡ sound_header m
   no-numbers e = sym (header_is ∙ simp e)
 
   module _ (n : numbers m ≡ true) where
-    pub few : m.header.names.held ≤ 16
-    few = leb-true m.header.names.held 16 (both _ (leb m.header.names.held 16) n).1
+    pub few : min held 16 ≡ held
+    few = min-eq_left (leb-true held 16 (both _ (leb held 16) n).1)
 
-    pub no_lengths : every valid_length (take m.header.names.held m.header.names.lengths) ≡ false → false ≡ sound_header m
-    no_lengths e = sym (header_is ∙ simp (n, e))
+    -- of those held, what the code has found of at most 16
+    of_held : {A : Type 0} (f : ℕ → A) {x : A} → f (min held 16) ≡ x → f held ≡ x
+    of_held f e = sym (ap f few) ∙ e
 
-    module _ (l : every valid_length (take m.header.names.held m.header.names.lengths) ≡ true) where
-      pub no_names : every (every valid_byte) (names m.header.names) ≡ false → false ≡ sound_header m
-      no_names e = sym (header_is ∙ simp (n, l, e))
+    pub no_names : valid_names m.header.names (min held 16) ≡ false → false ≡ sound_header m
+    no_names e = sym (header_is ∙ simp (n, of_held (valid_names m.header.names) e))
 
-      module _ (v : every (every valid_byte) (names m.header.names) ≡ true) where
-        pub not-distinct : distinct (names m.header.names) ≡ false → false ≡ sound_header m
-        not-distinct e = sym (header_is ∙ simp (n, l, v, e))
+    module _ (v : valid_names m.header.names (min held 16) ≡ true) where
+      pub not-distinct : unlike_names m.header.names (min held 16) ≡ false → false ≡ sound_header m
+      not-distinct e = sym (header_is ∙ simp (n, of_held (valid_names m.header.names) v, of_held (unlike_names m.header.names) e))
 
-        pub by_total : {t : ℕ} → distinct (names m.header.names) ≡ true → t ≡ total (take m.header.names.held m.header.counts) → eqb t m.header.ring.length ≡ sound_header m
-        by_total e s = sym (header_is ∙ simp (n, l, v, e) (ap (λ (k : ℕ). eqb k m.header.ring.length) (sym s)))
+      pub by_total : {t h : ℕ} → unlike_names m.header.names (min held 16) ≡ true → h ≡ min held 16 → t ≡ total (take h m.header.counts) → eqb t m.header.ring.length ≡ sound_header m
+      by_total {t} e k s =
+          sym (header_is ∙ simp (n, of_held (valid_names m.header.names) v, of_held (unlike_names m.header.names) e) (ap (λ (k : ℕ). eqb k m.header.ring.length) total_is))
+        where
+          total_is : total (take held m.header.counts) ≡ t
+          total_is = sym (s ∙ rw (k, few))

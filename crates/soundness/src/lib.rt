@@ -1,7 +1,7 @@
 // The tests of a lent record: its header, and the front entry (01, 'What a call gives back'; 02, A.2).
 #![tactic(auto)]
 
-ghost use Rattle.std.specs.Prelude.{◌≡◌, [], ℕ, ◌+◌, ◌-◌, ◌≤◌, ◌<◌, eqb, length, get_or, take, drop};
+ghost use Rattle.std.specs.Prelude.{◌≡◌, [], ℕ, ◌+◌, ◌-◌, ◌≤◌, ◌<◌, ◌&&◌, eqb, min, length, get_or, take, drop};
 ghost use Rattle.laws.specs.Lists.{every, tally, table, total, same, distinct};
 ghost use Rattle.metadata.specs.Metadata.{valid_byte};
 ghost use Rattle.machine.specs.Names.{name_at, names};
@@ -18,13 +18,6 @@ use machine::{Processes, Ring, Roster, Rules};
 use names::{equal, name_at};
 use offset::within;
 
-// Whether each of these names has 1 to 32 bytes.
-fn lengths_valid(lengths: &[u8]) -> bool
-    ensures { result ≡ every valid_length lengths.now }
-{
-    lengths.iter().all(|size| (1..=32).contains(size))
-}
-
 // Whether the bytes of the name that starts there are valid. All 32 are looked at, without an early end, which the compiler turns into vector code.
 fn bytes_valid(bytes: &[u8; 512], start: usize, size: usize) -> bool
     requires { (start + 32 ≤ 512) × (size ≤ 32) }
@@ -37,12 +30,29 @@ fn bytes_valid(bytes: &[u8; 512], start: usize, size: usize) -> bool
     valid
 }
 
-// Whether the bytes of each name held are valid. That no more than 16 are held is asked here and below: C lends any header, and `sound_header` alone tests it.
-fn names_valid(names: &Roster, held: usize) -> bool
-    requires { (held ≤ 16) × ((k : ℕ) → k < held → get_or names.now.lengths k 0 ≤ 32) }
-    ensures { result ≡ every (every valid_byte) (table (name_at names.now) 0 held) }
+// Whether a name has 1 to 32 bytes, all of them valid.
+fn name_valid(names: &Roster, i: usize) -> bool
+    requires { i < 16 }
+    ensures { result ≡ (valid_length (get_or names.now.lengths i 0) && every valid_byte (name_at names.now i)) }
 {
-    (0..held).all(|i| bytes_valid(&names.bytes, 32 * i, names.lengths[i] as usize))
+    let size = names.lengths[i];
+    (1..=32).contains(&size) && bytes_valid(&names.bytes, 32 * i, size as usize)
+}
+
+// How many names are held, of at most 16: C lends any header. By the smaller of the two the compiler knows that each has a slot.
+fn held(names: &Roster) -> usize
+    ensures { result ≡ min names.now.held 16 }
+{
+    names.held.min(MOST_NAMES) as usize
+}
+
+// Whether each name held is valid.
+fn names_valid(names: &Roster) -> bool
+    ensures { let n = min names.now.held 16 in
+        result ≡ (every valid_length (take n names.now.lengths) && every (every valid_byte) (table (name_at names.now) 0 n)) }
+{
+    let lengths = &names.lengths[..held(names)];
+    (0..lengths.len()).all(|i| name_valid(names, i))
 }
 
 // The key of a name: its length, and its first byte, the last but one and the last.
@@ -58,7 +68,7 @@ fn key_of(name: &[u8]) -> u32
     number32(size, first, byte(name, n - 2), byte(name, n - 1))
 }
 
-// The key of each name held.
+// The key of each name held. That no more than 16 are is asked here and below: `held` is handed on.
 fn keys_of(names: &Roster, held: usize) -> [u32; 16]
     requires { held ≤ 16 }
     ensures { Keyed names.now result held }
@@ -91,10 +101,10 @@ fn is_unlike(names: &Roster, keys: &[u32; 16], i: usize, held: usize) -> bool
 }
 
 // Whether no two names held are alike.
-fn names_distinct(names: &Roster, held: usize) -> bool
-    requires { held ≤ 16 }
-    ensures { result ≡ distinct (table (name_at names.now) 0 held) }
+fn names_distinct(names: &Roster) -> bool
+    ensures { result ≡ distinct (table (name_at names.now) 0 (min names.now.held 16)) }
 {
+    let held = held(names);
     if held < 2 {
         return true;
     }
@@ -146,17 +156,13 @@ pub fn sound_header(
     if !numbers {
         return false;
     }
-    let held = names.held as usize;
-    if !lengths_valid(&names.lengths[..held]) {
+    if !names_valid(names) {
         return false;
     }
-    if !names_valid(names, held) {
+    if !names_distinct(names) {
         return false;
     }
-    if !names_distinct(names, held) {
-        return false;
-    }
-    total_of(&processes.counts[..held]) == ring.length as u64
+    total_of(&processes.counts[..held(names)]) == ring.length as u64
 }
 
 // Whether a front entry is sound.

@@ -4,8 +4,7 @@ ghost use Rattle.cell.specs.Cells.{packed, unpacked, number, with_number};
 ghost use Rattle.steps.specs.Inner.Acts.{met_by, first_of, last_of};
 
 use offset::Relative;
-use types::FIELD_PAIRS;
-use types::field::Field;
+use types::field::{Field, field_pairs_of};
 
 // The modifier's number.
 pub(crate) fn modifier(w: u64) -> u8
@@ -58,8 +57,6 @@ pub(crate) fn meet(modifier: u8, ra: u64, rb: u64) -> (Met, Met)
     requires { modifier ≤ 6 }
     ensures { (result.0 ≡ first_of modifier ra rb) × (result.1 ≡ last_of modifier ra rb) }
 {
-    // By reference: an index into the constant itself copies it first, which is 4 and 11 % more instructions for dwarf and mixed.
-    let pairs = &FIELD_PAIRS;
-    let row = pairs[modifier as usize];
+    let row = field_pairs_of(modifier);
     (pair(row[0], row[1], ra, rb), pair(row[2], row[3], ra, rb))
 }

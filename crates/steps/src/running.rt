@@ -100,7 +100,8 @@ fn ask(
     play(core, queue, setting, processes, until)
 }
 
-// Up to how many steps taken the record is trusted: the ceiling where a scan of the whole record pays and the record passes it, else 0.
+// Up to how many steps taken the record is trusted: the ceiling where a scan of the whole record pays and the record passes it, else 0. Called once a run: written into its caller it takes registers of the loop, and a step takes 3 to 6 % more instructions.
+#[inline(never)]
 fn trusted_until(
     core: &[u64],
     queue: &[u64],

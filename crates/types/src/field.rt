@@ -1,4 +1,6 @@
-// The number fields of an instruction, each told by its first bit in a cell's word: the A number's is 16, the B number's 0 (01, 'Cells').
+// The number fields of an instruction, each told by its first bit in a cell's word: the A number's is 16, the B number's 0 (01, 'Cells'); and which of them meet (01, 'One step').
+ghost use Rattle.std.specs.Prelude.{◌≡◌, [], get_or, min};
+ghost use Rattle.types.specs.Types.{field_pairs};
 
 use std::marker::Model;
 
@@ -40,4 +42,28 @@ impl Field {
     {
         self.bit
     }
+}
+
+// By modifier: a's field, and b's field and target, of the first pair; then of the last, the same one where there is one. A field is told by its first bit: a struct with an `impl Model` can stand in no static, and a constant of such structs is laid out at each use.
+static FIELD_PAIRS: [[u64; 4]; 7] = [
+    [A, A, A, A],
+    [B, B, B, B],
+    [A, B, A, B],
+    [B, A, B, A],
+    [A, A, B, B],
+    [B, A, A, B],
+    [A, A, B, B],
+];
+
+// The field pairs of a modifier; of a number over 6 those of the last.
+pub fn field_pairs_of(modifier: u8) -> [Field; 4]
+    ensures { result ≡ get_or field_pairs (min modifier 6) [] }
+{
+    let row = FIELD_PAIRS[modifier.min(6) as usize];
+    [
+        Field { bit: row[0] },
+        Field { bit: row[1] },
+        Field { bit: row[2] },
+        Field { bit: row[3] },
+    ]
 }
