@@ -23,5 +23,6 @@ warrior_checks size name body place =
     ∷ check (not (valid_name name) || leb size place) 5
     ∷ []
 
+-- the number and value that these rows tell, as above
 unfoldable pub warrior_told : ℕ → List ℕ → List ℕ → ℕ → Told
 warrior_told size name body place = verdict_told (first (warrior_checks size name body place))

@@ -4,11 +4,6 @@ ghost use Rattle.types.specs.Types.{field_pairs};
 
 use std::marker::Model;
 
-// The bits themselves are for `word::number`, which takes any.
-pub const A: u64 = 16;
-
-pub const B: u64 = 0;
-
 // A number field. It holds the bit that an enum would be turned into at each use: with an enum in its place a run takes 2 to 5 % more instructions.
 #[derive(Clone, Copy)]
 pub struct Field {
@@ -32,9 +27,9 @@ impl Field {
     ghost use Rattle.std.specs.Prelude.{◌≡◌};
     ghost use Rattle.types.specs.Types.{first_bit};
 
-    pub const A: Field = Field { bit: A };
+    pub const A: Field = Field { bit: 16 };
 
-    pub const B: Field = Field { bit: B };
+    pub const B: Field = Field { bit: 0 };
 
     // Its first bit.
     pub fn first_bit(self) -> u64
@@ -43,6 +38,11 @@ impl Field {
         self.bit
     }
 }
+
+// The bits themselves, for the table and for `word::number`, which takes any.
+pub const A: u64 = Field::A.bit;
+
+pub const B: u64 = Field::B.bit;
 
 // By modifier: a's field, and b's field and target, of the first pair; then of the last, the same one where there is one. A field is told by its first bit: a struct with an `impl Model` can stand in no static, and a constant of such structs is laid out at each use.
 static FIELD_PAIRS: [[u64; 4]; 7] = [
