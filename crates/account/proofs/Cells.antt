@@ -10,7 +10,7 @@ use lib.Dec.{eqb}
 use lib.ListN.{length, get_or, set, replicate}
 use Rattle.laws.proofs.Tally.{tally-set}
 use Rattle.cell.specs.declared.Cell.{Cell}
-use Rattle.types.specs.Types.{Field}
+use Rattle.types.specs.declared.field.Field.{Field}
 use Rattle.offset.specs.Offset.{ahead}
 use Rattle.cell.specs.Cells.{packed, fresh_cell}
 use Rattle.machine.specs.State.{Machine}

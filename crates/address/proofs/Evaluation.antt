@@ -10,7 +10,7 @@ use borrow.Author.Tests.{le-leb, ne_eqb}
 use Rattle.laws.proofs.Cases.{span}
 use Rattle.cell.specs.Cells.{unpacked, sound_word}
 use Rattle.cell.proofs.Soundness.{sound-fields}
-use Rattle.types.specs.Types.{A, B}
+use Rattle.types.specs.declared.field.Field.TheVariants.{A, B}
 use Rattle.word.proofs.Cells.{number-below}
 use Rattle.machine.specs.declared.Rules.{Rules}
 use Rattle.machine.specs.Soundness.{valid_size}

@@ -13,7 +13,7 @@ use Rattle.laws.proofs.Cases.{span}
 use Rattle.laws.proofs.Modulo.{mod-small, mod-wrap}
 use Rattle.laws.proofs.Tests.{both, and-true}
 use Rattle.offset.specs.Offset.{ahead}
-use Rattle.types.specs.Types.{Field}
+use Rattle.types.specs.declared.field.Field.{Field}
 use Rattle.cell.specs.Cells.{packed, unpacked, sound_word, number, with_number}
 use Rattle.machine.specs.declared.Rules.{Rules}
 use Rattle.machine.specs.Pointers as machine

@@ -1,7 +1,8 @@
 -- One less and one more than a field number, by one comparison; the field that a mode goes through, and the number that a pointer is made of.
 -- Believed. Assumes nothing.
 use Rattle.std.specs.Prelude.{ℕ, ◌+◌, ◌-◌, ◌%◌, cond, eqb, ltb}
-use Rattle.types.specs.Types.{Field, A, B}
+use Rattle.types.specs.declared.field.Field.{Field}
+use Rattle.types.specs.declared.field.Field.TheVariants.{A, B}
 use Rattle.machine.specs.Pointers.{Shift, keeps, lowers, raises}
 
 -- one less and one more than a field number, round the end: `less` and `more` for a number below the size

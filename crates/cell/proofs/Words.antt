@@ -6,7 +6,8 @@ use native.Mathlib.Nat.{mod-mod, mod-eq_of_lt}
 use native.Mathlib.Omega.{arith}
 use Rattle.laws.proofs.Fields.{beside, beside-low}
 use Rattle.cell.specs.declared.Cell.{Cell}
-use Rattle.types.specs.Types.{Field, A, B}
+use Rattle.types.specs.declared.field.Field.{Field}
+use Rattle.types.specs.declared.field.Field.TheVariants.{A, B}
 use Rattle.cell.specs.Cells.{packed, unpacked, with_number}
 
 -- the fields, one put beside the other, are the sum

@@ -3,7 +3,8 @@
 use Rattle.std.specs.Prelude.{ℕ, ◌+◌, ◌*◌, ◌/◌, ◌%◌, ◌^◌, Bool, ◌&&◌, List, eqb, leb, ltb, get_or, set}
 use Rattle.cell.specs.declared.Cell.{Cell}
 use Rattle.offset.specs.declared.Relative.{Relative}
-use Rattle.types.specs.Types.{Field, A, B}
+use Rattle.types.specs.declared.field.Field.{Field}
+use Rattle.types.specs.declared.field.Field.TheVariants.{A, B}
 use Rattle.types.specs.Opcode.{DAT, STP}
 use Rattle.types.specs.Modifier.{F, I}
 use Rattle.types.specs.Mode.{Direct}

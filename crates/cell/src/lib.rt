@@ -3,7 +3,7 @@
 
 ghost use Rattle.std.specs.Prelude.{◌≡◌};
 ghost use Rattle.cell.specs.Cells.{packed, unpacked, sound_word, fresh_cell, with_number};
-ghost use Rattle.types.specs.Types.{Field};
+ghost use Rattle.types.specs.declared.field.Field.{Field};
 
 use offset::Relative;
 use types::mode::DIRECT;

@@ -10,7 +10,7 @@ use lib.ListN.{length, get_or, set, length-set}
 use lib.Seq.{get_or-set_same, set-get_or}
 use Rattle.offset.specs.Offset.{ahead}
 use Rattle.offset.proofs.Offsets.{sum_is, ahead-lt}
-use Rattle.types.specs.Types.{Field}
+use Rattle.types.specs.declared.field.Field.{Field}
 use Rattle.cell.specs.Cells.{number, cell_at}
 use Rattle.machine.specs.declared.Rules.{Rules}
 use Rattle.machine.specs.Pointers.{Reach, here, there, through, reaches, Shift, keeps, lowers, raises, shifts, field_of, fold, located, pointed, before, after, Site, site_at, operand}

@@ -9,7 +9,8 @@ use borrow.Author.Tests.{eqb-true, eqb-false}
 use lib.ListN.{length, get_or, set, get_or-map}
 use Rattle.laws.proofs.Lists.{map-set}
 use Rattle.cell.specs.declared.Cell.{Cell}
-use Rattle.types.specs.Types.{Field, A}
+use Rattle.types.specs.declared.field.Field.{Field}
+use Rattle.types.specs.declared.field.Field.TheVariants.{A}
 use Rattle.cell.specs.Cells.{packed, unpacked, with_number}
 use Rattle.cell.proofs.Words.{InRange, word-range, with-range, unpack-pack}
 use Rattle.machine.specs.Pointers.{changed}

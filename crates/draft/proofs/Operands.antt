@@ -14,7 +14,8 @@ use Rattle.laws.proofs.Numbers.{below}
 use Rattle.laws.proofs.Every.{◌and◌}
 use Rattle.cell.specs.declared.Cell.{Cell}
 use Rattle.offset.specs.Offset.{ahead}
-use Rattle.types.specs.Types.{Field, A, B}
+use Rattle.types.specs.declared.field.Field.{Field}
+use Rattle.types.specs.declared.field.Field.TheVariants.{A, B}
 use Rattle.types.specs.Mode.{PreDecIndirectB, PostIncIndirectA, PostIncIndirectB}
 use Rattle.cell.specs.Cells.{unpacked, number, cell_at}
 use Rattle.offset.proofs.Offsets.{ahead-lt}

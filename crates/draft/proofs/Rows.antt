@@ -11,7 +11,8 @@ use Rattle.laws.specs.Lists.{every}
 use Rattle.laws.proofs.Numbers.{below}
 use Rattle.laws.proofs.Every.{◌and◌}
 use Rattle.cell.specs.declared.Cell.{Cell}
-use Rattle.types.specs.Types.{Field, A, B}
+use Rattle.types.specs.declared.field.Field.{Field}
+use Rattle.types.specs.declared.field.Field.TheVariants.{A, B}
 use Rattle.cell.specs.Cells.{with_number}
 use Rattle.cell.proofs.Words.{InRange, with-range}
 use Rattle.machine.specs.Execution.{stored}

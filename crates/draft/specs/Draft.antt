@@ -3,7 +3,7 @@
 use Rattle.std.specs.Prelude.{ℕ, zero, suc, ◌+◌, ◌-◌, ◌*◌, ◌/◌, ◌%◌, Bool, cond, not, ◌&&◌, List, [], ◌∷◌, eqb, ltb, get_or, set}
 use Rattle.std.proofs.Math.Option.{Option, none, some}
 use Rattle.cell.specs.declared.Cell.{Cell}
-use Rattle.types.specs.Types.{Field}
+use Rattle.types.specs.declared.field.Field.{Field}
 use Rattle.types.specs.Opcode as opcode
 use Rattle.draft.specs.Evaluation.{ANumber, BNumber, modes, immediate, Rules, at, assign, Operand, evaluate}
 

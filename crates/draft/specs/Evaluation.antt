@@ -3,15 +3,15 @@
 use Rattle.std.specs.Prelude.{ℕ, ◌+◌, ◌-◌, ◌/◌, ◌%◌, cond, List, [], ◌∷◌, ltb, get_or, set}
 use Rattle.cell.specs.declared.Cell.{Cell}
 use Rattle.cell.specs.Cells.{relative, number, with_number}
-use Rattle.types.specs.Types.{Field}
-use Rattle.types.specs.Types
+use Rattle.types.specs.declared.field.Field.{Field}
+use Rattle.types.specs.declared.field.Field.TheVariants as field
 
 -- the draft's names of a cell's two numbers
 abbrev pub ANumber : Field
-ANumber = Types.A
+ANumber = field.A
 
 abbrev pub BNumber : Field
-BNumber = Types.B
+BNumber = field.B
 
 -- the indirect modes go through the A number or the B number
 pub data Mode : Type 0 where

@@ -14,7 +14,8 @@ use Rattle.laws.proofs.Numbers.{below}
 use Rattle.laws.proofs.Every.{◌and◌, Every, every-or}
 use Rattle.cell.specs.declared.Cell.{Cell}
 use Rattle.offset.specs.Offset.{ahead}
-use Rattle.types.specs.Types.{Field, Pair, pairs}
+use Rattle.types.specs.declared.field.Field.{Field}
+use Rattle.types.specs.Types.{Pair, pairs}
 use Rattle.cell.specs.Cells.{number}
 use Rattle.types.specs.Modifier.{I}
 use Rattle.offset.proofs.Offsets.{ahead-lt}

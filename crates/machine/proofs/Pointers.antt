@@ -12,7 +12,8 @@ use lib.Seq.{get_or-set_same, get_or-set_other}
 use Rattle.laws.specs.Lists.{every}
 use Rattle.laws.proofs.Every.{Every, every-at, every_set}
 use Rattle.cell.specs.declared.Cell.{Cell}
-use Rattle.types.specs.Types.{Field, A, B}
+use Rattle.types.specs.declared.field.Field.{Field}
+use Rattle.types.specs.declared.field.Field.TheVariants.{A, B}
 use Rattle.cell.specs.Cells.{packed, unpacked, sound_word, number, with_number, cell_at}
 use Rattle.offset.proofs.Offsets.{ahead-lt}
 use Rattle.cell.proofs.Words.{word-range, with-range, unpack-pack}

@@ -13,7 +13,8 @@ use Rattle.laws.specs.Lists.{every}
 use Rattle.laws.proofs.Tests.{both}
 use Rattle.laws.proofs.Every.{every-join}
 use Rattle.cell.specs.declared.Cell.{Cell}
-use Rattle.types.specs.Types.{Field, A, B}
+use Rattle.types.specs.declared.field.Field.{Field}
+use Rattle.types.specs.declared.field.Field.TheVariants.{A, B}
 use Rattle.offset.specs.Offset.{ahead}
 use Rattle.offset.proofs.Offsets.{ahead-lt}
 use Rattle.cell.specs.Cells.{sound_word, number, with_number, cell_at}

@@ -5,7 +5,8 @@ use Rattle.std.proofs.Math.Option.{Option, none, some}
 use Rattle.laws.specs.Lists.{every}
 use Rattle.cell.specs.declared.Cell.{Cell}
 use Rattle.offset.specs.Offset.{ahead}
-use Rattle.types.specs.Types.{Field, pairs}
+use Rattle.types.specs.declared.field.Field.{Field}
+use Rattle.types.specs.Types.{pairs}
 use Rattle.cell.specs.Cells.{packed, number, with_number}
 use Rattle.types.specs.Modifier.{I}
 use Rattle.machine.specs.Pointers.{less}

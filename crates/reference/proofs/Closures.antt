@@ -10,7 +10,8 @@ use Rattle.laws.specs.Lists.{every}
 use Rattle.laws.proofs.Numbers.{below}
 use Rattle.laws.proofs.Every.{◌and◌}
 use Rattle.cell.specs.declared.Cell.{Cell}
-use Rattle.types.specs.Types.{Field, A, B}
+use Rattle.types.specs.declared.field.Field.{Field}
+use Rattle.types.specs.declared.field.Field.TheVariants.{A, B}
 use Rattle.types.specs.Modifier.{I}
 use Rattle.machine.specs.Execution.{Met, is_none, put, stored}
 use Rattle.machine.proofs.Execution.{row}

@@ -11,7 +11,8 @@ use lib.ListN.{length, get_or, set}
 use borrow.Author.Tests.{eqb-true, eqb-false, le-leb}
 use Rattle.cell.specs.declared.Cell.{Cell}
 use Rattle.offset.specs.Offset.{ahead}
-use Rattle.types.specs.Types.{Field, A, B}
+use Rattle.types.specs.declared.field.Field.{Field}
+use Rattle.types.specs.declared.field.Field.TheVariants.{A, B}
 use Rattle.cell.specs.Cells.{unpacked, number, with_number}
 use Rattle.offset.proofs.Offsets.{ahead-lt}
 use Rattle.cell.proofs.Words.{word-range}

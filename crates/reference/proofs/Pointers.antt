@@ -12,7 +12,8 @@ use Rattle.laws.proofs.Numbers.{below}
 use Rattle.laws.proofs.Every.{◌and◌}
 use Rattle.cell.specs.declared.Cell.{Cell}
 use Rattle.offset.specs.Offset.{ahead}
-use Rattle.types.specs.Types.{Field, A, B}
+use Rattle.types.specs.declared.field.Field.{Field}
+use Rattle.types.specs.declared.field.Field.TheVariants.{A, B}
 use Rattle.cell.specs.Cells.{unpacked, number, with_number}
 use Rattle.offset.proofs.Offsets.{ahead-lt}
 use Rattle.cell.proofs.Words.{word-range, with-range}

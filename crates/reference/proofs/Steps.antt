@@ -4,7 +4,7 @@ use Prim.Native.Nat.{ℕ, ◌≤◌, ◌<◌}
 use mathlib.Core.Path.{◌≡◌, sym, ap, ap₂, subst, ◌∙◌}
 use mathlib.Core.List.{List, map}
 use native.Mathlib.Omega.{arith}
-use Rattle.types.specs.Types.{A, B}
+use Rattle.types.specs.declared.field.Field.TheVariants.{A, B}
 use Rattle.cell.specs.Cells.{cell_at}
 use Rattle.cell.proofs.Soundness.{Sound}
 use Rattle.machine.specs.declared.Rules.{Rules}

@@ -9,7 +9,7 @@ use lib.ListN.{length, get_or}
 use lib.Seq.{set-get_or}
 use Rattle.laws.proofs.Cases.{span}
 use Rattle.offset.specs.Offset.{ahead}
-use Rattle.types.specs.Types.{Field}
+use Rattle.types.specs.declared.field.Field.{Field}
 use Rattle.cell.specs.Cells.{packed, unpacked, sound_word, number, with_number, store}
 use Rattle.machine.specs.declared.Rules.{Rules}
 use Rattle.machine.specs.Pointers.{Reach, here, there, through, Shift, keeps, lowers, raises, reaches, shifts, field_of, before, after, site_at}

@@ -11,7 +11,7 @@ use borrow.Author.Tests.{ne_eqb}
 use Rattle.laws.proofs.Cases.{span}
 use Rattle.laws.proofs.Modulo.{mod-small}
 use Rattle.cell.specs.declared.Cell.{Cell}
-use Rattle.types.specs.Types.{Field}
+use Rattle.types.specs.declared.field.Field.{Field}
 use Rattle.cell.specs.Cells.{packed, unpacked, with_number}
 use Rattle.cell.proofs.Words.{InRange, with-range}
 use Rattle.machine.specs.Execution.{put, is_none}

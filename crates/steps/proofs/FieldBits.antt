@@ -8,7 +8,9 @@ use lib.Bits.{bit_and, and_mask, and_high}
 use Rattle.cell.specs.declared.Cell.{Cell}
 use Rattle.cell.specs.Cells.{packed, unpacked, number, with_number}
 use Rattle.cell.proofs.Words.{pack-unpack}
-use Rattle.types.specs.Types.{Field, A, B, first_bit}
+use Rattle.types.specs.declared.field.Field.{Field}
+use Rattle.types.specs.declared.field.Field.TheVariants.{A, B}
+use Rattle.types.specs.Types.{first_bit}
 
 -- `(w >> bit) & 0xffff`
 pub number_is : (f : Field) (w : ℕ) → bit_and (w / 2 ^ first_bit f) 65535 ≡ number f (unpacked w)

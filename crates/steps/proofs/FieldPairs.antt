@@ -11,7 +11,8 @@ use Rattle.laws.specs.Lists.{every}
 use Rattle.laws.proofs.Cases.{span}
 use Rattle.laws.proofs.Tests.{and-true}
 use Rattle.cell.specs.declared.Cell.{Cell}
-use Rattle.types.specs.Types.{Field, A, B}
+use Rattle.types.specs.declared.field.Field.{Field}
+use Rattle.types.specs.declared.field.Field.TheVariants.{A, B}
 use Rattle.cell.specs.Cells.{unpacked, sound_word}
 use Rattle.machine.specs.Execution as machine
 use Rattle.machine.specs.Execution.{mets, some?, stored, put}

@@ -6,7 +6,7 @@ use mathlib.Core.List.{List}
 use Prim.Native.Nat.{ℕ, ◌≤◌, ◌<◌}
 use lib.ListN.{length, get_or}
 use Rattle.laws.proofs.Every.{every-passes}
-use Rattle.types.specs.Types.{Field}
+use Rattle.types.specs.declared.field.Field.{Field}
 use Rattle.cell.specs.Cells.{unpacked, sound_word, number, cell_at}
 use Rattle.word.proofs.Cells.{ahead-below, with-sound}
 use Rattle.machine.specs.declared.Rules.{Rules}

@@ -4,7 +4,8 @@ ghost use Rattle.cell.specs.Cells.{packed, unpacked, number, with_number};
 ghost use Rattle.steps.specs.Inner.Acts.{met_by, first_of, last_of};
 
 use offset::Relative;
-use types::field::{Field, field_pairs_of};
+use types::FIELD_PAIRS;
+use types::field::Field;
 
 // The modifier's number.
 pub(crate) fn modifier(w: u64) -> u8
@@ -57,6 +58,6 @@ pub(crate) fn meet(modifier: u8, ra: u64, rb: u64) -> (Met, Met)
     requires { modifier ≤ 6 }
     ensures { (result.0 ≡ first_of modifier ra rb) × (result.1 ≡ last_of modifier ra rb) }
 {
-    let row = field_pairs_of(modifier);
+    let row = FIELD_PAIRS[modifier as usize];
     (pair(row[0], row[1], ra, rb), pair(row[2], row[3], ra, rb))
 }

@@ -1,9 +1,8 @@
 -- The number fields of an instruction, and which of them meet by modifier (01, 'One step').
 -- Believed. Assumes nothing.
 use Rattle.std.specs.Prelude.{ℕ, List, [], ◌∷◌, map}
-
-pub data Field : Type 0 where
-  A B : Field
+use Rattle.types.specs.declared.field.Field.{Field}
+use Rattle.types.specs.declared.field.Field.TheVariants.{A, B}
 
 -- a's field, and b's field and target
 pub record Pair : Type 0 where

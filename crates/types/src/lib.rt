@@ -6,7 +6,8 @@ ghost use Rattle.types.specs.Defaults.{ranged, default_modifier, default_of, giv
 ghost use Rattle.types.specs.Modifier.{I};
 ghost use Rattle.types.specs.Types.{field_pairs};
 
-use crate::field::{Field, field_pairs_of};
+use crate::field::Field;
+use crate::field::Field::{A, B};
 use crate::mode::{IMMEDIATE, POST_INC_INDIRECT_B};
 use crate::modifier::{AB, F, I};
 use crate::opcode::{
@@ -74,17 +75,20 @@ pub fn default_88_to_94(opcode: u8, a_mode: u8, b_mode: u8) -> Result<u8, Error>
     default_of(opcode, a_mode, b_mode).ok_or(Error::InvalidCode(0))
 }
 
+// By modifier: a's field, and b's field and target, of the first pair; then of the last, the same one where there is one.
+pub static FIELD_PAIRS: [[Field; 4]; 7] = [
+    [A, A, A, A],
+    [B, B, B, B],
+    [A, B, A, B],
+    [B, A, B, A],
+    [A, A, B, B],
+    [B, A, A, B],
+    [A, A, B, B],
+];
+
 // The field pairs of the seven modifiers.
 pub fn field_pairs() -> [[Field; 4]; 7]
     ensures { result ≡ field_pairs }
 {
-    [
-        field_pairs_of(0),
-        field_pairs_of(1),
-        field_pairs_of(2),
-        field_pairs_of(3),
-        field_pairs_of(4),
-        field_pairs_of(5),
-        field_pairs_of(6),
-    ]
+    FIELD_PAIRS
 }

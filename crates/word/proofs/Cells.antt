@@ -7,7 +7,9 @@ use lib.Dec.{eqb}
 use native.Mathlib.Nat.{mod-lt}
 use native.Mathlib.Omega.{arith}
 use Rattle.offset.specs.Offset.{ahead}
-use Rattle.types.specs.Types.{Field, A, B, first_bit}
+use Rattle.types.specs.declared.field.Field.{Field}
+use Rattle.types.specs.declared.field.Field.TheVariants.{A, B}
+use Rattle.types.specs.Types.{first_bit}
 use Rattle.cell.specs.Cells.{packed, unpacked, sound_word, number, with_number}
 use Rattle.offset.proofs.Offsets.{sum_is}
 use Rattle.cell.proofs.Words.{pack-unpack}

@@ -2,7 +2,8 @@
 -- Believed. Assumes nothing.
 use Rattle.std.specs.Prelude.{ℕ, ◌<◌, ◌≡◌, cond, eqb}
 use Rattle.offset.specs.Offset.{ahead}
-use Rattle.types.specs.Types.{Field, A, B}
+use Rattle.types.specs.declared.field.Field.{Field}
+use Rattle.types.specs.declared.field.Field.TheVariants.{A, B}
 
 -- a field by its first bit: 16 is the A field's, and any other number is taken for the B field's
 abbrev pub field_by : ℕ → Field

@@ -4,7 +4,7 @@ use Rattle.std.specs.Prelude.{ℕ, Bool, true, not, ◌&&◌, List, [], ◌∷�
 use Rattle.laws.specs.Lists.{among, every}
 use Rattle.offset.specs.Offset.{ahead}
 use Rattle.cell.specs.Cells.{packed, unpacked, sound_word, number, with_number}
-use Rattle.types.specs.Types.{Field}
+use Rattle.types.specs.declared.field.Field.{Field}
 use Rattle.types.specs.Opcode.{LDP, STP}
 use Rattle.machine.specs.State.{Check, check}
 use Rattle.machine.specs.Pointers.{Reach, here, there, through, Shift, keeps, lowers, raises, reaches, shifts, field_of, less, more, Site}

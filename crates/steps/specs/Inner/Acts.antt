@@ -3,7 +3,9 @@
 use Rattle.std.specs.Prelude.{ℕ, ◌+◌, ◌<◌, ◌≡◌, [], ◌∷◌, get_or}
 use Rattle.std.proofs.Math.Option.{Option, none, some}
 use Rattle.cell.specs.declared.Cell.{Cell}
-use Rattle.types.specs.Types.{Field, A, field_pairs}
+use Rattle.types.specs.declared.field.Field.{Field}
+use Rattle.types.specs.declared.field.Field.TheVariants.{A}
+use Rattle.types.specs.Types.{field_pairs}
 use Rattle.cell.specs.Cells.{packed, unpacked, number, relative}
 use Rattle.machine.specs.Execution as machine
 use Rattle.steps.specs.declared.opcode.Executed.{Executed}

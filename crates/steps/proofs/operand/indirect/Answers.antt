@@ -1,7 +1,7 @@
 -- The goals of `steps::operand::indirect` that the check leaves.
 use mathlib.Core.Path.{refl, ap, ◌∙◌}
 use lib.ListN.{get_or}
-use Rattle.types.specs.Types.{Field}
+use Rattle.types.specs.declared.field.Field.{Field}
 use Rattle.cell.specs.Cells.{packed, unpacked, number, with_number}
 use Rattle.word.proofs.Cells.{reduced}
 use Rattle.steps.proofs.Operating.{there-small, to-small, up_small, plain, lower, raise}

@@ -5,10 +5,10 @@ use Rattle.steps.proofs.scene.Scene.jumps.Goals as goal
 
 pub returns-then-tests : goal.returns-then-tests
 returns-then-tests c =
-    let m = c.met-p.ensures in
+    let m = c.met.ensures in
     jumped c.args.self 0 _ c.requires.0 c.requires.1 _ _ m.0 m.1 _ (sym c.tests.ensures ∙ c.if-tests.true) _ refl
 
 pub returns : goal.returns
 returns c =
-    let m = c.met-p.ensures in
+    let m = c.met.ensures in
     jumped c.args.self 0 _ c.requires.0 c.requires.1 _ _ m.0 m.1 _ (sym c.tests.ensures ∙ c.if-tests.false) _ c.onward.ensures

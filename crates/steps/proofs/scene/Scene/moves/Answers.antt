@@ -10,10 +10,10 @@ pub store-requires : goal.store-requires
 store-requires c =
     let s = c.args.self in
     let t = c.args.target.now in
-    let m = c.met-p.ensures in
+    let m = c.met.ensures in
     asks_two s t c.requires _ _ m.0 m.1 _ _ (below s t c.requires _ _ m.0 m.1).a (last_below s t c.requires _ _ m.0 m.1).a
 
 pub returns : goal.returns
 returns c =
-    let m = c.met-p.ensures in
+    let m = c.met.ensures in
     move-fields c.args.self c.args.target.now c.requires _ _ m.0 m.1 c.if-self-eq-I.false _ _ c.onward-next.ensures c.store.ensures
