@@ -1,4 +1,3 @@
-pub mod FieldBits
 pub mod Copies
 pub mod FieldPairs
 pub mod Arithmetic

@@ -3,14 +3,11 @@
 use mathlib.Core.Path.{◌≡◌, sym, ap, ap₂, ◌∙◌}
 use mathlib.Core.Bool.{true}
 use mathlib.Core.List.{List}
-use Prim.Native.Nat.{ℕ, ◌^◌, ◌≤◌, ◌<◌}
-use native.Mathlib.Omega.{arith}
+use Prim.Native.Nat.{ℕ, ◌≤◌, ◌<◌}
 use lib.ListN.{get_or, set}
 use Rattle.offset.specs.declared.Absolute.{Absolute}
 use Rattle.offset.specs.Offset.{ahead}
 use Rattle.cell.specs.Cells.{packed, unpacked, sound_word, number, with_number}
-use Rattle.cell.proofs.Soundness.{sound-fields}
-use Rattle.word.proofs.Cells.{ahead-below, number-below}
 use Rattle.machine.specs.declared.Rules.{Rules}
 use Rattle.machine.specs.Pointers as machine
 use Rattle.machine.specs.Pointers.{Shift, shifts, keeps, lowers, raises, less, more, site_at}
@@ -20,15 +17,6 @@ use Rattle.address.specs.Inner.Operands.{sound_seen, Ready}
 use Rattle.address.proofs.Pointing as law
 use Rattle.steps.specs.declared.operand.Operand.{Operand}
 use Rattle.steps.specs.Inner.Instruction.{operand_of}
-
--- the number that a pointer is made of, and one more, fit a field
-aimed-small : (t : Shift) (size n : ℕ) → n < size → size ≤ 46341 → aimed t size n < 65536
-aimed-small keeps size n h l = omega arith
-aimed-small lowers size n h l = let k : less size n < size = ahead-below _ _ h in rw (law.is-less size n h) (omega arith)
-aimed-small raises size n h l = omega arith
-
-raised-small : (size n : ℕ) → n < size → size ≤ 46341 → incremented size n < 65536
-raised-small size n h l = let k : more size n < size = ahead-below _ _ h in rw (law.is-more size n h) (omega arith)
 
 module _ (rules : Rules) (core : List ℕ) (pc mode n : ℕ) where
   abbrev its : machine.Operand
@@ -52,24 +40,12 @@ module _ (rules : Rules) (core : List ℕ) (pc mode n : ℕ) where
     there-sound : sound_word size (get_or core location.0 0) ≡ true
     there-sound = rw is (law.read-sound rules core pc mode n seen)
 
-    pub there-small : get_or core location.0 0 < 2 ^ 46
-    there-small = (sound-fields size (get_or core location.0 0) there-sound).0
-
     pub dollar : mode ≡ 1 → Gives (record { pointer = location; register = get_or core location.0 0 }) core
     dollar e = gives {pointer = location} (law.dollar rules core pc mode n location.0 is there-sound e)
 
     module _ (k : Ready rules core pc n) (two : 2 ≤ mode) (eight : mode < 8) (found to : ℕ) (pointer : Absolute)
         (es : found ≡ number (field_through mode) (unpacked (get_or core location.0 0))) (et : to ≡ aimed (get_or shifts mode keeps) size found)
         (ep : pointer.0 ≡ ahead size location.0 to) where
-      found_below : found < size
-      found_below = rw es (number-below (field_through mode) size (get_or core location.0 0) there-sound)
-
-      pub to-small : to < 65536
-      to-small = rw et (aimed-small (get_or shifts mode keeps) size found found_below k.valid)
-
-      pub up_small : {up : ℕ} → up ≡ incremented size found → up < 65536
-      up_small e = rw e (raised-small size found found_below k.valid)
-
       pointed : sound_word size (get_or core pointer.0 0) ≡ true
       pointed =
           rw (← law.points rules core pc mode n location.0 is there-sound two eight found to pointer.0 es et ep)

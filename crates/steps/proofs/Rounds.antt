@@ -3,7 +3,7 @@
 use mathlib.Core.Path.{◌≡◌, refl, sym, ap, subst, ◌∙◌}
 use mathlib.Core.Bool.{Bool, true, false}
 use Rattle.std.specs.Prelude.{max}
-use Prim.Native.Nat.{ℕ, ◌+◌, ◌-◌, ◌*◌, ◌^◌, ◌≤◌, ◌<◌}
+use Prim.Native.Nat.{ℕ, ◌+◌, ◌-◌, ◌*◌, ◌≤◌, ◌<◌}
 use native.Mathlib.Nat.{add-zero}
 use native.Mathlib.Omega.{arith}
 use lib.Dec.{eqb, ltb}
@@ -13,7 +13,6 @@ use Rattle.answer.specs.Numbers.{Told, told}
 use Rattle.std.specs.Prelude.{Err}
 use Rattle.answer.specs.declared.Error.TheVariants.{PrivateMemory}
 use Rattle.cell.specs.Cells.{unpacked}
-use Rattle.cell.proofs.Soundness.{sound-fields}
 use Rattle.machine.specs.State.{Machine}
 use Rattle.machine.specs.Step.{pc, executed}
 use Rattle.lent.specs.Parts.{processes_of, queue_of}
@@ -21,7 +20,7 @@ use Rattle.lent.specs.Given.{Given, given, given_by}
 use Rattle.steps.specs.Inner.Instruction.{Executable}
 use Rattle.steps.specs.Inner.Queueing.{tail_of, Front}
 use Rattle.steps.specs.Inner.Ready.{Ready, step_of, plays_of, Playable, Scanned}
-use Rattle.steps.proofs.Answers.{step_left, here-sound, fetches, front-is, private-step, executable, executed-step}
+use Rattle.steps.proofs.Answers.{step_left, fetches, front-is, private-step, executable, executed-step}
 use Rattle.steps.proofs.Trust.{Playing, playable, plays-on}
 use Rattle.steps.proofs.Loop.{Going, step-counted, as-run, onward, few-writes, stopped, reaches, again}
 
@@ -44,9 +43,6 @@ module _ {until : ℕ} {start m : Machine} {w tail : ℕ} (g : Round until start
 
   pub can-fetch : (m.header.ring.head < length m.queue) × (pc m < length m.core)
   can-fetch = fetches m g.going.ready can-play
-
-  pub cell-small : get_or m.core (pc m) 0 < 2 ^ 46
-  cell-small = (sound-fields m.header.rules.size (get_or m.core (pc m) 0) (here-sound m g.going.ready can-play)).0
 
   -- the cell that was fetched
   module _ {cell op : ℕ} (fetched : cell ≡ get_or m.core (pc m) 0) (is : op ≡ (unpacked cell).opcode) where

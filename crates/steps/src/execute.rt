@@ -7,7 +7,7 @@ ghost use Rattle.chain.specs.Operands.{operands_at};
 ghost use Rattle.steps.specs.Inner.Instruction.{Executable, answered};
 
 use crate::modifier::modifier;
-use crate::opcode::{Executed, opcode};
+use crate::opcode::Executed;
 use crate::operand::{changes, one_operand};
 use crate::scene::Scene;
 use chain::{Operands, evaluate};
@@ -15,7 +15,7 @@ use fold::unlimited;
 use machine::Rules;
 use offset::Absolute;
 use types::field::{A, B};
-use word::{a_mode, b_mode, number};
+use word::{a_mode, b_mode, number, opcode};
 
 // Both operands of the cell at PC, where both limits are M. `Executable` is asked at each call: the core is lent as plain numbers, and a type with that fact would be made anew at each step. By `evaluate`, which takes any limits, a step of a run takes 2.4 to 3 times as many instructions.
 fn whole_operands(core: &mut [u64], rules: Rules, pc: Absolute, here: u64) -> Operands

@@ -23,14 +23,6 @@ pub(crate) enum Executed {
     DivideByZero(u64),
 }
 
-// The opcode's number of a sound cell: `word::opcode`, which takes any word, has a mask more.
-pub(crate) fn opcode(w: u64) -> u64
-    requires { w < 2 ^ 46 }
-    ensures { result ≡ (unpacked w).opcode }
-{
-    w >> 41
-}
-
 // A cell copied over another: opcode, modifier and numbers, not modes.
 fn copy(to: u64, from: u64) -> u64
     ensures { result ≡ packed (copy_of (unpacked to) (unpacked from)) }
@@ -40,7 +32,6 @@ fn copy(to: u64, from: u64) -> u64
 
 // The target word with a number in each target field, first pair first.
 fn store(t: u64, t1: Field, n1: Relative, t2: Field, n2: Relative) -> u64
-    requires { (t < 2 ^ 46) × (n1.0 < 65536) × (n2.0 < 65536) }
     ensures { result ≡ packed (with_number t2 n2.0 (with_number t1 n1.0 (unpacked t))) }
 {
     with_number_at(with_number_at(t, t1, n1), t2, n2)
@@ -62,7 +53,6 @@ fn value(opcode: u64, size: u32, a: Relative, b: Relative) -> Relative
 
 // DIV a/b and MOD a mod b in a target field, which a zero b leaves.
 fn part(opcode: u64, t: u64, field: Field, a: Relative, b: Relative) -> u64
-    requires { (t < 2 ^ 46) × (a.0 < 65536) }
     ensures { result ≡ cond (eqb b.0 0) t (packed (with_number field (cond (eqb opcode 5) (a.0 / b.0) (a.0 % b.0)) (unpacked t))) }
 {
     if b.0 == 0 {
@@ -84,7 +74,7 @@ fn tests(opcode: u64, b1: Relative, b2: Relative) -> bool
     (b1.0 != 0) | (b2.0 != 0)
 }
 
-// The target is lent, so each opcode that reads it asks for itself that it is sound.
+// The target is lent, so an opcode that compares it, or may leave it as it is, asks for itself that it is sound.
 impl Scene {
     // PC+1.
     fn onward(self) -> Absolute
@@ -102,7 +92,6 @@ impl Scene {
 
     // MOV: a goes to the target; under I opcode and modifier do, too.
     fn moves(self, target: &mut u64) -> Executed
-        requires { sound_word self.size target.old ≡ true }
         ensures { Does 1 self target.old result target.new }
     {
         let next = self.onward();
@@ -118,7 +107,7 @@ impl Scene {
 
     // ADD, SUB and MUL.
     fn sums(self, opcode: u64, target: &mut u64) -> Executed
-        requires { (sound_word self.size target.old ≡ true) × (2 ≤ opcode) × (opcode < 5) }
+        requires { (2 ≤ opcode) × (opcode < 5) }
         ensures { Does opcode self target.old result target.new }
     {
         let next = self.onward();
@@ -171,7 +160,6 @@ impl Scene {
 
     // DJN: stores b-1 and goes when some result isn't 0. The one less is 01's one reducing addition, of M-1, as SUB's difference is.
     fn counts(self, target: &mut u64) -> Executed
-        requires { sound_word self.size target.old ≡ true }
         ensures { Does 10 self target.old result target.new }
     {
         let t = *target;

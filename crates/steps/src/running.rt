@@ -7,7 +7,6 @@ ghost use Rattle.lent.specs.Given.{given, given_by};
 ghost use Rattle.steps.specs.Inner.Ready.{Ready, plays_of, Plays, Scanned, ran_of};
 
 use crate::Ran;
-use crate::opcode::opcode;
 use crate::setting::Setting;
 use crate::stepping::{fetch, step_once};
 use answer::{Answer, Error};
@@ -16,6 +15,7 @@ use offset::ahead;
 use refusal::refusal;
 use scan::scan;
 use types::opcode::NOP;
+use word::opcode;
 
 // What a run gives, from the steps taken before it.
 fn ran(answer: Answer, writes: u64, before: u32, processes: &Processes) -> Ran

@@ -1,6 +1,5 @@
 -- The goals of `steps::execute::execute` that the check leaves.
 use mathlib.Core.Path.{refl}
-use Rattle.cell.proofs.Soundness.{sound-fields}
 use Rattle.steps.proofs.Executing.{scene-sound, target-inside, target-sound, done}
 use Rattle.steps.proofs.execute.execute.Goals as goal
 
@@ -16,9 +15,6 @@ invariant_of-scene c =
           (scene-sound a.rules a.core.now a.pc.0 a.here c.requires _ _ c.operands-o.ensures
           c.a_mode.ensures c.b_mode.ensures c.changes.ensures c.changes-2.ensures);
     }
-
-pub opcode-requires : goal.opcode-requires
-opcode-requires c = (sound-fields _ c.args.here c.requires.cell.sound).0
 
 pub act-requires : goal.act-requires
 act-requires c =

@@ -4,7 +4,7 @@ use lib.ListN.{get_or}
 use Rattle.types.specs.declared.field.Field.{Field}
 use Rattle.cell.specs.Cells.{packed, unpacked, number, with_number}
 use Rattle.word.proofs.Cells.{reduced}
-use Rattle.steps.proofs.Operating.{there-small, to-small, up_small, plain, lower, raise}
+use Rattle.steps.proofs.Operating.{plain, lower, raise}
 use Rattle.steps.proofs.operand.indirect.Goals as goal
 
 pub returns-then-mode-lt-PRE_DEC_INDIRECT_A : goal.returns-then-mode-lt-PRE_DEC_INDIRECT_A
@@ -15,17 +15,6 @@ returns-then-mode-lt-PRE_DEC_INDIRECT_A c =
     (reduced _ _ c.requires.0.place c.add-location.ensures).is c.requires.0 c.requires.1 c.requires.2 _ _ c.add-pointer.result found c.aim-to.ensures
     (reduced _ _ c.requires.0.place c.add-pointer.ensures).is c.if-mode-lt-PRE_DEC_INDIRECT_A.true
 
-pub with_number_at-requires : goal.with_number_at-requires
-with_number_at-requires c =
-    let a = c.args in
-    let found = c.number_at-found.ensures ∙ ap (λ (f : Field). number f (unpacked (get_or a.core.now c.add-location.result.0 0))) c.field_of-field.ensures in (
-      there-small a.rules a.core.now a.pc.0 a.mode a.n.0 c.requires.3 c.add-location.result
-          (reduced _ _ c.requires.0.place c.add-location.ensures).is,
-      to-small a.rules a.core.now a.pc.0 a.mode a.n.0 c.requires.3 c.add-location.result
-          (reduced _ _ c.requires.0.place c.add-location.ensures).is c.requires.0 c.requires.1 c.requires.2 _ _ c.add-pointer.result found c.aim-to.ensures
-          (reduced _ _ c.requires.0.place c.add-pointer.ensures).is,
-    )
-
 pub returns-then-mode-lt-POST_INC_INDIRECT_A : goal.returns-then-mode-lt-POST_INC_INDIRECT_A
 returns-then-mode-lt-POST_INC_INDIRECT_A c =
     let a = c.args in
@@ -34,17 +23,6 @@ returns-then-mode-lt-POST_INC_INDIRECT_A c =
     lower a.rules a.core.now a.pc.0 a.mode a.n.0 c.requires.3 c.add-location.result
     (reduced _ _ c.requires.0.place c.add-location.ensures).is c.requires.0 c.requires.1 c.requires.2 _ _ c.add-pointer.result found c.aim-to.ensures
     (reduced _ _ c.requires.0.place c.add-pointer.ensures).is _ _ refl c.if-mode-lt-PRE_DEC_INDIRECT_A.false c.if-mode-lt-POST_INC_INDIRECT_A.true word _ refl
-
-pub with_number_at-requires-2 : goal.with_number_at-requires-2
-with_number_at-requires-2 c =
-    let a = c.args in
-    let found = c.number_at-found.ensures ∙ ap (λ (f : Field). number f (unpacked (get_or a.core.now c.add-location.result.0 0))) c.field_of-field.ensures in (
-      there-small a.rules a.core.now a.pc.0 a.mode a.n.0 c.requires.3 c.add-location.result
-          (reduced _ _ c.requires.0.place c.add-location.ensures).is,
-      up_small a.rules a.core.now a.pc.0 a.mode a.n.0 c.requires.3 c.add-location.result
-          (reduced _ _ c.requires.0.place c.add-location.ensures).is c.requires.0 c.requires.1 c.requires.2 _ _ c.add-pointer.result found c.aim-to.ensures
-          (reduced _ _ c.requires.0.place c.add-pointer.ensures).is c.increment.ensures,
-    )
 
 pub returns : goal.returns
 returns c =

@@ -6,7 +6,7 @@ use Rattle.lent.specs.Parts.{names_of}
 use Rattle.word.proofs.Cells.{reduced}
 use Rattle.steps.proofs.Trust.{plays-first}
 use Rattle.steps.proofs.Loop.{begun, over, giving, failed, went}
-use Rattle.steps.proofs.Rounds.{can-count, can-fetch, cell-small, private-stops, can-step, one-more, writes-few, step-stops, goes-round}
+use Rattle.steps.proofs.Rounds.{can-count, can-fetch, private-stops, can-step, one-more, writes-few, step-stops, goes-round}
 use Rattle.steps.proofs.running.play.Goals as goal
 
 pub loop-processes-init : goal.loop-processes-init
@@ -19,9 +19,6 @@ loop-processes-init c = record {
 
 pub fetch-f-requires : goal.fetch-f-requires
 fetch-f-requires c = can-fetch c.loop-processes.invariant c.loop-processes-test.true
-
-pub opcode-requires : goal.opcode-requires
-opcode-requires c = rw c.fetch-f.ensures.1 (cell-small c.loop-processes.invariant c.loop-processes-test.true)
 
 pub returns-then-opcode-gt-NOP-clause-plays : goal.returns-then-opcode-gt-NOP-clause-plays
 returns-then-opcode-gt-NOP-clause-plays c =
