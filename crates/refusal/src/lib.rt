@@ -65,7 +65,7 @@ fn changed(word: u64, size: u32, mode: u64) -> u64
 
 // Whether the other cells that the instruction at PC reads are sound, where both limits are M. B goes by the word that A leaves, but a
 // change of a number keeps a word sound: so the cell at B's pointer is read as it is.
-// Beside chain's for speed: a step of a run takes 110 to 153 instructions with limits M, and 347 to 411 with limits 2,000 (bench/README.md).
+// Beside chain's for speed: a step of a run takes 105 to 156 instructions with limits M, and 341 to 411 with limits 2,000 (bench/README.md).
 fn whole_readable(core: &[u64], rules: Rules, pc: Absolute, here: u64) -> bool
     requires { Fetched rules core.now pc.0 here }
     ensures { result ≡ former_sound (site_at rules pc.0) core.now }

@@ -76,7 +76,7 @@ fn indirect(core: &mut [u64], rules: Rules, pc: Absolute, mode: u64, n: Relative
     Operand { pointer, register }
 }
 
-// The operand of a mode and a number, which are those of the cell at PC. Written into its caller twice: called there, a run takes 17 to 26 % more instructions.
+// The operand of a mode and a number, which are those of the cell at PC. Written into its caller twice: called there, a run takes 9 to 20 % more instructions.
 #[inline(always)]
 pub(crate) fn one_operand(
     core: &mut [u64],

@@ -23,7 +23,7 @@ pub(crate) struct Stepped {
     pub tail: u32,
 }
 
-// The slot after a slot, round the end. By `offset::ahead`, which takes any numbers, a run takes 14 to 19 % more instructions.
+// The slot after a slot, round the end. By `offset::ahead`, which takes any numbers, a run takes 12 to 18 % more instructions.
 fn slot_after(slot: u32, slots: u32) -> u32
     requires { slot < slots }
     ensures { result ≡ ahead slots slot 1 }
@@ -44,7 +44,7 @@ fn push(queue: &mut [u64], tail: u32, w: u64) -> u32
     slot_after(tail, queue.len() as u32)
 }
 
-// SPL's child is started, where there is room: the tail afterwards. By `queue::start`, which tests for room in the memory and finds the tail anew, a step of a battle with SPL takes 5 % more instructions.
+// SPL's child is started, where there is room: the tail afterwards. By `queue::start`, which tests for room in the memory and finds the tail anew, a step of a battle with SPL takes 4 % more instructions.
 fn start_child(
     queue: &mut [u64],
     processes: &mut Processes,

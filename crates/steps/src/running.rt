@@ -100,7 +100,7 @@ fn ask(
     play(core, queue, setting, processes, until)
 }
 
-// Up to how many steps taken the record is trusted: the ceiling where a scan of the whole record pays and the record passes it, else 0. Called once a run: written into its caller it takes registers of the loop, and a step takes 3 to 6 % more instructions.
+// Up to how many steps taken the record is trusted: the ceiling where a scan of the whole record pays and the record passes it, else 0. Called once a run, and so called it stays: written into its caller it takes registers of the loop, and a step of a run takes 2 to 4 % more instructions, an outer step 1 to 4 % fewer.
 #[inline(never)]
 fn trusted_until(
     core: &[u64],

@@ -7,7 +7,7 @@ pub const A: u64 = 16;
 
 pub const B: u64 = 0;
 
-// A number field.
+// A number field, in the order of their bits.
 #[derive(Clone, Copy)]
 pub enum Field {
     B,
@@ -15,7 +15,7 @@ pub enum Field {
 }
 
 impl Field {
-    // Its first bit.
+    // Its first bit. By a match over the two a run takes up to 3 % more instructions.
     pub fn first_bit(self) -> u64
         ensures { result ≡ first_bit self }
     {
