@@ -17,7 +17,7 @@ use offset::{Absolute, Relative, add, plus, within};
 use types::field::{A, B};
 use types::mode::{IMMEDIATE, INDIRECT_A, POST_INC_INDIRECT_A, PRE_DEC_INDIRECT_A};
 use types::opcode::{CMP, SLT};
-use word::{a_mode, b_mode, number, opcode, with_number};
+use word::{a_mode, b_mode, number, number_in, opcode, with_number_in};
 
 // Where the A operand reads, the register there; where the B operand is compared or stored to, and its register.
 #[derive(Clone, Copy)]
@@ -63,8 +63,12 @@ fn lowered(w: u64, size: u32, mode: u64) -> u64
         return w;
     }
     if mode < POST_INC_INDIRECT_A {
-        let field = field_of(mode).first_bit();
-        return with_number(w, field, plus(number(w, field), Relative(size - 1), size));
+        let field = field_of(mode);
+        return with_number_in(
+            w,
+            field,
+            plus(number_in(w, field), Relative(size - 1), size),
+        );
     }
     w
 }
@@ -77,8 +81,8 @@ fn raised(w: u64, size: u32, mode: u64) -> u64
     if mode < POST_INC_INDIRECT_A {
         return w;
     }
-    let field = field_of(mode).first_bit();
-    with_number(w, field, plus(number(w, field), Relative(1), size))
+    let field = field_of(mode);
+    with_number_in(w, field, plus(number_in(w, field), Relative(1), size))
 }
 
 // The end of a chain, of the number folded and the word at its location.
@@ -92,7 +96,7 @@ fn pointer(pc: Absolute, mode: u64, folded: Relative, w: u64, limit: u32, size: 
     if mode < INDIRECT_A {
         return add(pc, folded, size);
     }
-    let found = number(w, field_of(mode).first_bit());
+    let found = number_in(w, field_of(mode));
     add(pc, fold_sum(folded, found, limit, size), size)
 }
 

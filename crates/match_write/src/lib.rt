@@ -15,7 +15,7 @@ use write_checks::refusal;
 
 mod store;
 
-// Writes n warriors of a file, whose bodies begin at `start`, and one more.
+// Writes n warriors of a file, whose bodies begin at `start`, and one more. What was read of the file goes beside it, here and to `store_file`: of a struct with a lent part a contract speaks as it was at entry, in longer clauses.
 fn write(
     file: &[u8],
     n: usize,

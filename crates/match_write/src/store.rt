@@ -44,7 +44,7 @@ fn put_lines(out: &mut [u8], file: &[u8], n: usize, first: usize) -> usize
     next
 }
 
-// Stores the file of a size, of n warriors of a file whose bodies begin at `start`, and of one more. Gives its length.
+// Stores the file of a size, of n warriors of a file whose bodies begin at `start`, and of one more. Gives its length. What was read of the file goes beside it, as to `write`.
 pub(crate) fn store_file(
     out: &mut [u8],
     file: &[u8],

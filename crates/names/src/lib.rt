@@ -21,7 +21,7 @@ pub fn equal(a: &[u8], b: &[u8]) -> bool
     a == b
 }
 
-// The name in a slot, as a part of the names' bytes.
+// The name in a slot, as a part of the names' bytes. Names are looked through by their index, since a name is a part of two arrays.
 pub fn name_at(names: &Roster, i: usize) -> &[u8]
     ensures { result.now ≡ name_at names.now i }
 {

@@ -25,7 +25,7 @@ use soundness::{in_bounds, sound_front};
 use types::field::{A, B};
 use types::mode::{INDIRECT_A, POST_INC_INDIRECT_A, PRE_DEC_INDIRECT_A};
 use types::opcode::NOP;
-use word::{a_mode, b_mode, number, opcode, with_number};
+use word::{a_mode, b_mode, number, number_in, opcode, with_number_in};
 
 // Whether both cells that an operand reads where both limits are M are sound: the one at its location, of which the word is given, and the one at its pointer.
 fn look(core: &[u64], size: u32, location: Absolute, word: u64, mode: u64) -> bool
@@ -38,8 +38,8 @@ fn look(core: &[u64], size: u32, location: Absolute, word: u64, mode: u64) -> bo
     if mode < INDIRECT_A {
         return true;
     }
-    let field = field_of(mode).first_bit();
-    let to = aim(size, mode, number(word, field));
+    let field = field_of(mode);
+    let to = aim(size, mode, number_in(word, field));
     let pointer = add(location, to, size);
     let i = pointer.0 as usize;
     let there = core[i];
@@ -55,17 +55,17 @@ fn changed(word: u64, size: u32, mode: u64) -> u64
     if mode < PRE_DEC_INDIRECT_A {
         return word;
     }
-    let field = field_of(mode).first_bit();
-    let found = number(word, field);
+    let field = field_of(mode);
+    let found = number_in(word, field);
     if mode < POST_INC_INDIRECT_A {
-        return with_number(word, field, decrement(found, size));
+        return with_number_in(word, field, decrement(found, size));
     }
-    with_number(word, field, increment(found, size))
+    with_number_in(word, field, increment(found, size))
 }
 
 // Whether the other cells that the instruction at PC reads are sound, where both limits are M. B goes by the word that A leaves, but a
 // change of a number keeps a word sound: so the cell at B's pointer is read as it is.
-// Beside chain's for speed: a step of a run takes 105 to 156 instructions with limits M, and 341 to 411 with limits 2,000 (bench/README.md).
+// Beside chain's for speed: by that, which takes any limits, an outer step takes 32 to 40 % more instructions.
 fn whole_readable(core: &[u64], rules: Rules, pc: Absolute, here: u64) -> bool
     requires { Fetched rules core.now pc.0 here }
     ensures { result ≡ former_sound (site_at rules pc.0) core.now }

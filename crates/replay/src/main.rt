@@ -28,6 +28,7 @@ fn battle(input: &mut Input<'_>, core: &mut [u64], queue: &mut [u64]) -> Result<
         return Ok(());
     };
     let mut header = fresh(of_size(size as u32), core, queue).header;
+    // How often is all that counts.
     for _ in 0..calls {
         let outcome = Call::read(input).make(core, queue, header);
         header = outcome.header;

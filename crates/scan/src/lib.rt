@@ -75,7 +75,7 @@ fn entries_tallied(queue: &[u64], rules: Rules, held: u32, processes: &Processes
     processes.counts[..n] == tallies[..n]
 }
 
-// Whether every cell and every queued entry is sound, each held name's count is the number of its entries, and no counter comes to its end within so many steps.
+// Whether every cell and every queued entry is sound, each held name's count is the number of its entries, and no counter comes to its end within so many steps. The parts are lent one by one, as to `refusal::refusal`.
 pub fn scan(
     core: &[u64],
     queue: &[u64],

@@ -1,7 +1,7 @@
 // The tests of a lent record: its header, and the front entry (01, 'What a call gives back'; 02, A.2).
 #![tactic(auto)]
 
-ghost use Rattle.std.specs.Prelude.{◌≡◌, [], ℕ, ◌+◌, ◌-◌, ◌≤◌, ◌<◌, ◌&&◌, eqb, min, length, get_or, take, drop};
+ghost use Rattle.std.specs.Prelude.{◌≡◌, [], ◌+◌, ◌-◌, ◌≤◌, ◌<◌, ◌&&◌, eqb, min, length, get_or, take, drop};
 ghost use Rattle.laws.specs.Lists.{every, tally, table, total, same, distinct};
 ghost use Rattle.metadata.specs.Metadata.{valid_byte};
 ghost use Rattle.machine.specs.Names.{name_at, names};
@@ -30,7 +30,7 @@ fn bytes_valid(bytes: &[u8; 512], start: usize, size: usize) -> bool
     valid
 }
 
-// Whether a name has 1 to 32 bytes, all of them valid.
+// Whether a name has 1 to 32 bytes, all of them valid. A name is told by its index, here and below: it is a part of two arrays.
 fn name_valid(names: &Roster, i: usize) -> bool
     requires { i < 16 }
     ensures { result ≡ (valid_length (get_or names.now.lengths i 0) && every valid_byte (name_at names.now i)) }
@@ -46,7 +46,7 @@ fn held(names: &Roster) -> usize
     names.held.min(MOST_NAMES) as usize
 }
 
-// Whether each name held is valid.
+// Whether each name held is valid. How many there are is told by a part of their lengths: of an array behind a reference the check has no length.
 fn names_valid(names: &Roster) -> bool
     ensures { let n = min names.now.held 16 in
         result ≡ (every valid_length (take n names.now.lengths) && every (every valid_byte) (table (name_at names.now) 0 n)) }

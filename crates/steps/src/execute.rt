@@ -17,7 +17,7 @@ use offset::Absolute;
 use types::field::{A, B};
 use word::{a_mode, b_mode, number, opcode};
 
-// Both operands of the cell at PC, where both limits are M. `Executable` is asked at each call: the core is lent as plain numbers, and a type with that fact would be made anew at each step. By `evaluate`, which takes any limits, a step of a run takes 2.4 to 3 times as many instructions.
+// Both operands of the cell at PC, where both limits are M. `Executable` is asked at each call: the core is lent as plain numbers, and a type with that fact would be made anew at each step. By `evaluate`, which takes any limits, a step of a run takes 2.5 to 3.1 times as many instructions.
 fn whole_operands(core: &mut [u64], rules: Rules, pc: Absolute, here: u64) -> Operands
     requires { Executable rules core.old pc.0 here × Unlimited rules }
     ensures { (result ≡ operands_at (site_at rules pc.0) core.old) × (core.new ≡ (b_operand (site_at rules pc.0) core.old).core) }

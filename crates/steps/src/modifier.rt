@@ -6,7 +6,7 @@ ghost use Rattle.steps.specs.Inner.Acts.{met_by, first_of, last_of};
 use offset::Relative;
 use types::FIELD_PAIRS;
 use types::field::Field;
-use word::{number, with_number};
+use word::number_in;
 
 // The modifier's number.
 pub(crate) fn modifier(w: u64) -> u8
@@ -14,20 +14,6 @@ pub(crate) fn modifier(w: u64) -> u8
 {
     let k = ((w >> 38) & 7) as u8;
     k
-}
-
-// The number in a field.
-pub(crate) fn number_at(w: u64, field: Field) -> Relative
-    ensures { result.0 ≡ spec.number field (spec.unpacked w) }
-{
-    number(w, field.first_bit())
-}
-
-// The word of a cell with another number in a field.
-pub(crate) fn with_number_at(w: u64, field: Field, n: Relative) -> u64
-    ensures { result ≡ spec.packed (spec.with_number field n.0 (spec.unpacked w)) }
-{
-    with_number(w, field.first_bit(), n)
 }
 
 // A number of the A register and one of the B register that meet, and the field of the latter, which is the target's.
@@ -43,8 +29,8 @@ fn pair(a: Field, b: Field, ra: u64, rb: u64) -> Met
     ensures { result ≡ met_by a b ra rb }
 {
     Met {
-        a: number_at(ra, a),
-        b: number_at(rb, b),
+        a: number_in(ra, a),
+        b: number_in(rb, b),
         target: b,
     }
 }

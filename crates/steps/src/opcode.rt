@@ -1,11 +1,11 @@
 // What each opcode does with its registers (01, 'One step').
-ghost use Rattle.std.specs.Prelude.{◌≡◌, true, cond, not, ◌&&◌, ◌||◌, ◌<◌, ◌≤◌, ◌/◌, ◌%◌, ◌^◌, eqb, ltb};
+ghost use Rattle.std.specs.Prelude.{◌≡◌, true, cond, not, ◌&&◌, ◌||◌, ◌<◌, ◌≤◌, ◌/◌, ◌%◌, eqb, ltb};
 ghost use Rattle.std.proofs.Math.Option.{some};
 ghost use Rattle.offset.specs.Offset.{ahead};
 ghost use Rattle.cell.specs.Cells.{packed, unpacked, sound_word, with_number};
 ghost use Rattle.steps.specs.Inner.Acts.{copy_of, first_of, last_of, value_by, Answers, Does};
 
-use crate::modifier::{Met, meet, with_number_at};
+use crate::modifier::{Met, meet};
 use crate::scene::Scene;
 use offset::{Absolute, Relative, add, plus};
 use types::field::Field;
@@ -13,6 +13,7 @@ use types::modifier::{F, I};
 use types::opcode::{
     ADD, CMP, DAT, DIV, DJN, JMN, JMP, JMZ, LDP, MOD, MOV, MUL, NOP, SLT, SNE, SPL, STP, SUB,
 };
+use word::with_number_in;
 
 // What an instruction answers: the next place, beside it the place of SPL's child, or how it ends; and the writes. With an error in place of the two endings a run takes 7 to 10 % more instructions, with the writes in a struct beside the places 2 to 3 %.
 #[derive(Clone, Copy)]
@@ -34,7 +35,7 @@ fn copy(to: u64, from: u64) -> u64
 fn store(t: u64, t1: Field, n1: Relative, t2: Field, n2: Relative) -> u64
     ensures { result ≡ packed (with_number t2 n2.0 (with_number t1 n1.0 (unpacked t))) }
 {
-    with_number_at(with_number_at(t, t1, n1), t2, n2)
+    with_number_in(with_number_in(t, t1, n1), t2, n2)
 }
 
 // ADD a+b, SUB b-a and MUL a×b of two numbers. The opcode is asked again here and in `part`, `tests` and `passes`: a function for each opcode would be a twin of its neighbours in all but one line.
@@ -59,9 +60,9 @@ fn part(opcode: u64, t: u64, field: Field, a: Relative, b: Relative) -> u64
         return t;
     }
     if opcode == DIV {
-        return with_number_at(t, field, Relative(a.0 / b.0));
+        return with_number_in(t, field, Relative(a.0 / b.0));
     }
-    with_number_at(t, field, Relative(a.0 % b.0))
+    with_number_in(t, field, Relative(a.0 % b.0))
 }
 
 // JMZ: whether some tested b is 0; JMN: whether some isn't.
@@ -115,7 +116,7 @@ impl Scene {
         let v1 = value(opcode, self.size, p.a, p.b);
         let t = *target;
         if self.modifier < F {
-            *target = with_number_at(t, p.target, v1);
+            *target = with_number_in(t, p.target, v1);
             return Executed::Goes(next, self.writes + 1);
         }
         let v2 = value(opcode, self.size, q.a, q.b);

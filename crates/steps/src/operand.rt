@@ -6,11 +6,11 @@ ghost use Rattle.machine.specs.Whole.{former};
 ghost use Rattle.address.specs.Inner.Operands.{Ready, sound_seen};
 ghost use Rattle.steps.specs.Inner.Instruction.{operand_of};
 
-use crate::modifier::{number_at, with_number_at};
 use address::{aim, field_of, increment};
 use machine::Rules;
 use offset::{Absolute, Relative, add};
 use types::mode::{IMMEDIATE, INDIRECT_A, POST_INC_INDIRECT_A, PRE_DEC_INDIRECT_A};
+use word::{number_in, with_number_in};
 
 // An operand: its pointer and a copy of the cell there.
 #[derive(Clone, Copy)]
@@ -55,7 +55,7 @@ fn indirect(core: &mut [u64], rules: Rules, pc: Absolute, mode: u64, n: Relative
     let at = location.0 as usize;
     let old = core[at];
     let field = field_of(mode);
-    let found = number_at(old, field);
+    let found = number_in(old, field);
     let to = aim(size, mode, found);
     let pointer = add(location, to, size);
     let there = pointer.0 as usize;
@@ -67,12 +67,12 @@ fn indirect(core: &mut [u64], rules: Rules, pc: Absolute, mode: u64, n: Relative
         };
     }
     if mode < POST_INC_INDIRECT_A {
-        core[at] = with_number_at(old, field, to);
+        core[at] = with_number_in(old, field, to);
         let register = core[there];
         return Operand { pointer, register };
     }
     let register = core[there];
-    core[at] = with_number_at(old, field, increment(found, size));
+    core[at] = with_number_in(old, field, increment(found, size));
     Operand { pointer, register }
 }
 

@@ -92,7 +92,7 @@ fn end_process(processes: &mut Processes, name: u8, end: Error) -> Answer
     Ok(())
 }
 
-// The word of a sound entry at another place. Name and thread stay in the word as they are, so only the place is put in: `entry::pack` would put in all three (DECISIONS has figures for a mask).
+// The word of a sound entry at another place. Name and thread stay in the word as they are, so only the place is put in: `entry::pack` would put in all three, and a step of a run takes one instruction more by a mask.
 fn moved(w: u64, place: Absolute) -> u64
     requires { (w < 2 ^ 52) × (place.0 < 65536) }
     ensures { result ≡ packed_entry (entry place.0 (unpacked_entry w).thread (unpacked_entry w).name) }

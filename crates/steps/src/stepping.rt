@@ -32,7 +32,7 @@ pub(crate) fn fetch(core: &[u64], queue: &[u64], head: u32) -> Fetched
     Fetched { entry, cell }
 }
 
-// One step.
+// One step. The parts are lent one by one, as to `run_parts`.
 pub(crate) fn step_once(
     core: &mut [u64],
     queue: &mut [u64],

@@ -37,7 +37,7 @@ pub extern "C" fn sumacadze_get(core: &[u64], queue: &[u64], header: Header, num
     sumacadze::sumacadze_get(core, queue, header, number)
 }
 
-// Loads a warrior; an empty name is Warrior0.
+// Loads a warrior, lent part by part as C lends it; an empty name is Warrior0.
 #[unsafe(no_mangle)]
 pub extern "C" fn sumacadze_load(
     core: &mut [u64],

@@ -24,7 +24,7 @@ pairs =
     ∷ (pair A A ∷ pair B B ∷ [])
     ∷ []
 
--- in the code a field is told by its first bit in a cell's word: B number in bits 0–15, A number 16–31
+-- its first bit in a cell's word: B number in bits 0–15, A number 16–31
 abbrev pub first_bit : Field → ℕ
 first_bit A = 16
 first_bit B = 0

@@ -1,4 +1,4 @@
-// The number fields of an instruction, each told by its first bit in a cell's word: the A number's is 16, the B number's 0 (01, 'Cells').
+// The number fields of an instruction, and their first bits in a cell's word: the A number's is 16, the B number's 0 (01, 'Cells').
 ghost use Rattle.std.specs.Prelude.{◌≡◌};
 ghost use Rattle.types.specs.Types.{first_bit};
 

@@ -7,7 +7,7 @@ ghost use Rattle.word.specs.Words.{field_by};
 
 use cell::{with_a, with_b};
 use offset::Relative;
-use types::field::A;
+use types::field::{A, Field};
 
 // The opcode's number.
 pub fn opcode(w: u64) -> u64
@@ -30,7 +30,7 @@ pub fn b_mode(w: u64) -> u64
     (w >> 32) & 7
 }
 
-// The number in a field, which is told by its first bit. It takes any number, and `types::Field` would take two.
+// The number in a field that is told by its first bit. Any number is taken, and all but 16 are the B field's: by a `types::Field` alone it would ask more than it did, so `number_in` stands beside it.
 pub fn number(w: u64, field: u64) -> Relative
     ensures { result.0 ≡ spec.number (field_by field) (spec.unpacked w) }
 {
@@ -42,7 +42,14 @@ pub fn number(w: u64, field: u64) -> Relative
     Relative(b)
 }
 
-// The word with another number in a field.
+// The number in a field.
+pub fn number_in(w: u64, field: Field) -> Relative
+    ensures { result.0 ≡ spec.number field (spec.unpacked w) }
+{
+    number(w, field.first_bit())
+}
+
+// The word with another number in a field that is told by its first bit.
 pub fn with_number(w: u64, field: u64, n: Relative) -> u64
     ensures { result ≡ spec.packed (spec.with_number (field_by field) n.0 (spec.unpacked w)) }
 {
@@ -50,4 +57,11 @@ pub fn with_number(w: u64, field: u64, n: Relative) -> u64
         return with_a(w, n);
     }
     with_b(w, n)
+}
+
+// The word with another number in a field.
+pub fn with_number_in(w: u64, field: Field, n: Relative) -> u64
+    ensures { result ≡ spec.packed (spec.with_number field n.0 (spec.unpacked w)) }
+{
+    with_number(w, field.first_bit(), n)
 }

@@ -1,8 +1,8 @@
 -- The goals of `refusal::look` that the check leaves.
 use mathlib.Core.Path.{ap, ◌∙◌, sym}
-use Rattle.types.specs.Types.{first_bit}
-use Rattle.address.specs.Rounding.{field_through}
-use Rattle.word.proofs.Cells.{reduced, number_by}
+use Rattle.types.specs.declared.field.Field.{Field}
+use Rattle.cell.specs.Cells.{unpacked, number}
+use Rattle.word.proofs.Cells.{reduced}
 use Rattle.refusal.proofs.Looking.{unsound-location, no-further, further}
 use Rattle.refusal.proofs.look.Goals as goal
 
@@ -16,5 +16,5 @@ returns-then-mode-lt-INDIRECT_A c =
 pub returns : goal.returns
 returns c =
     further _ c.args.core.now _ _ _ (sym c.sound.ensures ∙ c.if-not-sound.false) c.if-mode-lt-INDIRECT_A.false c.requires.2
-    (number_by (field_through c.args.mode) _ (c.first_bit-field.ensures ∙ ap first_bit c.field_of.ensures) c.number.ensures) c.aim-to.ensures
+    (c.number_in.ensures ∙ ap (λ (f : Field). number f (unpacked c.args.word)) c.field_of-field.ensures) c.aim-to.ensures
     (reduced _ _ c.requires.1 c.add-pointer.ensures).is c.sound-2.ensures

@@ -10,7 +10,7 @@ use Rattle.steps.proofs.operand.indirect.Goals as goal
 pub returns-then-mode-lt-PRE_DEC_INDIRECT_A : goal.returns-then-mode-lt-PRE_DEC_INDIRECT_A
 returns-then-mode-lt-PRE_DEC_INDIRECT_A c =
     let a = c.args in
-    let found = c.number_at-found.ensures ∙ ap (λ (f : Field). number f (unpacked (get_or a.core.now c.add-location.result.0 0))) c.field_of-field.ensures in
+    let found = c.number_in-found.ensures ∙ ap (λ (f : Field). number f (unpacked (get_or a.core.now c.add-location.result.0 0))) c.field_of-field.ensures in
     plain a.rules a.core.now a.pc.0 a.mode a.n.0 c.requires.3 c.add-location.result
     (reduced _ _ c.requires.0.place c.add-location.ensures).is c.requires.0 c.requires.1 c.requires.2 _ _ c.add-pointer.result found c.aim-to.ensures
     (reduced _ _ c.requires.0.place c.add-pointer.ensures).is c.if-mode-lt-PRE_DEC_INDIRECT_A.true
@@ -18,8 +18,8 @@ returns-then-mode-lt-PRE_DEC_INDIRECT_A c =
 pub returns-then-mode-lt-POST_INC_INDIRECT_A : goal.returns-then-mode-lt-POST_INC_INDIRECT_A
 returns-then-mode-lt-POST_INC_INDIRECT_A c =
     let a = c.args in
-    let found = c.number_at-found.ensures ∙ ap (λ (f : Field). number f (unpacked (get_or a.core.now c.add-location.result.0 0))) c.field_of-field.ensures in
-    let word = c.with_number_at.ensures ∙ ap (λ (f : Field). packed (with_number f c.aim-to.result.0 (unpacked (get_or a.core.now c.add-location.result.0 0)))) c.field_of-field.ensures in
+    let found = c.number_in-found.ensures ∙ ap (λ (f : Field). number f (unpacked (get_or a.core.now c.add-location.result.0 0))) c.field_of-field.ensures in
+    let word = c.with_number_in.ensures ∙ ap (λ (f : Field). packed (with_number f c.aim-to.result.0 (unpacked (get_or a.core.now c.add-location.result.0 0)))) c.field_of-field.ensures in
     lower a.rules a.core.now a.pc.0 a.mode a.n.0 c.requires.3 c.add-location.result
     (reduced _ _ c.requires.0.place c.add-location.ensures).is c.requires.0 c.requires.1 c.requires.2 _ _ c.add-pointer.result found c.aim-to.ensures
     (reduced _ _ c.requires.0.place c.add-pointer.ensures).is _ _ refl c.if-mode-lt-PRE_DEC_INDIRECT_A.false c.if-mode-lt-POST_INC_INDIRECT_A.true word _ refl
@@ -27,8 +27,8 @@ returns-then-mode-lt-POST_INC_INDIRECT_A c =
 pub returns : goal.returns
 returns c =
     let a = c.args in
-    let found = c.number_at-found.ensures ∙ ap (λ (f : Field). number f (unpacked (get_or a.core.now c.add-location.result.0 0))) c.field_of-field.ensures in
-    let word = c.with_number_at-2.ensures ∙ ap (λ (f : Field). packed (with_number f c.increment.result.0 (unpacked (get_or a.core.now c.add-location.result.0 0)))) c.field_of-field.ensures in
+    let found = c.number_in-found.ensures ∙ ap (λ (f : Field). number f (unpacked (get_or a.core.now c.add-location.result.0 0))) c.field_of-field.ensures in
+    let word = c.with_number_in-2.ensures ∙ ap (λ (f : Field). packed (with_number f c.increment.result.0 (unpacked (get_or a.core.now c.add-location.result.0 0)))) c.field_of-field.ensures in
     raise a.rules a.core.now a.pc.0 a.mode a.n.0 c.requires.3 c.add-location.result
     (reduced _ _ c.requires.0.place c.add-location.ensures).is c.requires.0 c.requires.1 c.requires.2 _ _ c.add-pointer.result found c.aim-to.ensures
     (reduced _ _ c.requires.0.place c.add-pointer.ensures).is _ _ refl c.if-mode-lt-POST_INC_INDIRECT_A.false _ c.increment.ensures word _ refl

@@ -11,7 +11,7 @@ value-v1-requires c =
 pub returns-then-self-lt-F : goal.returns-then-self-lt-F
 returns-then-self-lt-F c =
     let m = c.met.ensures in
-    summed-one c.args.self c.args.target.now _ _ m.0 m.1 c.if-self-lt-F.true _ c.requires.0 c.requires.1 _ _ _ c.value-v1.ensures.0 c.onward-next.ensures c.with_number_at.ensures
+    summed-one c.args.self c.args.target.now _ _ m.0 m.1 c.if-self-lt-F.true _ c.requires.0 c.requires.1 _ _ _ c.value-v1.ensures.0 c.onward-next.ensures c.with_number_in.ensures
 
 pub value-v2-requires : goal.value-v2-requires
 value-v2-requires c =
