@@ -54,7 +54,7 @@ fn word_in(core: &[u64], place: Absolute, at: Absolute, word: u64) -> u64
     core[i]
 }
 
-// The word at the write location once the decrement is made. Apart from `raised`, and no twin of refusal's `changed`: chains are followed between the two, and the word may be unsound.
+// The word at the write location once the decrement is made. Apart from `raised`, as chains are followed between the two; refusal's `changed` has both, of a sound word alone.
 fn lowered(w: u64, size: u32, mode: u64) -> u64
     requires { (0 < size) × (mode < 8) }
     ensures { result ≡ word_before (get_or spec.shifts mode spec.keeps) size w (spec.field_of (get_or spec.reaches mode spec.here)) }

@@ -103,7 +103,7 @@ pub fn name(file: &[u8], number: usize) -> &[u8]
     warrior_or_empty(file, number).name
 }
 
-// The body of a warrior: that very part of the file.
+// The body of a warrior: that very part of the file. One of two parts, each with its own place and length.
 pub fn body(file: &[u8], number: usize) -> &[u8]
     ensures { result.now ≡ emptied (fault_at file.now number) (warrior_of file.now number).body }
 {

@@ -65,7 +65,7 @@ fn changed(word: u64, size: u32, mode: u64) -> u64
 
 // Whether the other cells that the instruction at PC reads are sound, where both limits are M. B goes by the word that A leaves, but a
 // change of a number keeps a word sound: so the cell at B's pointer is read as it is.
-// Beside chain's for speed: by that, which takes any limits, an outer step takes 32 to 40 % more instructions.
+// Beside chain's for speed: by that, which takes any limits, an outer step takes 32 to 40 % more instructions. It looks only: the instruction has operands of its own (`steps`).
 fn whole_readable(core: &[u64], rules: Rules, pc: Absolute, here: u64) -> bool
     requires { Fetched rules core.now pc.0 here }
     ensures { result ≡ former_sound (site_at rules pc.0) core.now }

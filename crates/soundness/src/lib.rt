@@ -18,7 +18,7 @@ use machine::{Processes, Ring, Roster, Rules};
 use names::{equal, name_at};
 use offset::within;
 
-// Whether the bytes of the name that starts there are valid. All 32 are looked at, without an early end, which the compiler turns into vector code.
+// Whether the bytes of the name that starts there are valid. All 32 are looked at, without an early end, which the compiler turns into vector code; a file's bytes are looked at for the position of a wrong one.
 fn bytes_valid(bytes: &[u8; 512], start: usize, size: usize) -> bool
     requires { (start + 32 ≤ 512) × (size ≤ 32) }
     ensures { result ≡ every valid_byte (take size (drop start bytes.now)) }
@@ -30,7 +30,7 @@ fn bytes_valid(bytes: &[u8; 512], start: usize, size: usize) -> bool
     valid
 }
 
-// Whether a name has 1 to 32 bytes, all of them valid. A name is told by its index, here and below: it is a part of two arrays.
+// Whether a name has 1 to 32 bytes, all of them valid. A name is told by its index, here and below: it is a part of two arrays. `metadata::valid_name` takes an empty name, too.
 fn name_valid(names: &Roster, i: usize) -> bool
     requires { i < 16 }
     ensures { result ≡ (valid_length (get_or names.now.lengths i 0) && every valid_byte (name_at names.now i)) }

@@ -122,7 +122,7 @@ fn trusted_until(
     0
 }
 
-// Steps while steps taken are below the ceiling, up to the first answer not 0. A call raises the steps taken by any number: no range counts them.
+// Steps while steps taken are below the ceiling, up to the first answer not 0. A call raises the steps taken by any number: no range counts them. `play`, which it comes to, is of steps of which the refusal was asked before, or need not be.
 pub(crate) fn run_loop(
     core: &mut [u64],
     queue: &mut [u64],

@@ -49,7 +49,7 @@ pub fn number_in(w: u64, field: Field) -> Relative
     number(w, field.first_bit())
 }
 
-// The word with another number in a field that is told by its first bit.
+// The word with another number in a field that is told by its first bit: of any number, as above.
 pub fn with_number(w: u64, field: u64, n: Relative) -> u64
     ensures { result ≡ spec.packed (spec.with_number (field_by field) n.0 (spec.unpacked w)) }
 {
