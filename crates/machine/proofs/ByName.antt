@@ -7,7 +7,7 @@ use mathlib.Core.List.{List}
 use native.Mathlib.Omega.{arith}
 use lib.Dec.{eqb}
 use lib.ListN.{length, get_or}
-use borrow.Author.Tests.{leb-false, ne_eqb}
+use borrow.Author.Tests.{ne_eqb}
 use Rattle.laws.specs.Lists.{one_if, same}
 use Rattle.laws.proofs.Same.{same_refl}
 use Rattle.answer.specs.Numbers.{Told, gives}
@@ -22,11 +22,11 @@ use Rattle.machine.specs.Load.{origin_of, loaded}
 use Rattle.machine.specs.Execution.{Ending, dat, divisor, Next, ends, goes, splits}
 use Rattle.machine.specs.Step.{popped, pc, effect, core_after, Queued, queued, end_told, next_told, executed, step, executes}
 use Rattle.machine.proofs.Names.{Shape, Held, count_at}
-use Rattle.machine.proofs.Soundness.{SoundHeader, counts-long, push-sound, registered-new}
+use Rattle.machine.proofs.Soundness.{SoundHeader, counts-long, room, push-sound, registered-new}
 use Rattle.machine.proofs.Agreement.{Agree, pop-entries, pop-agree, pop-held, push-entries, push-agree, push-held, counted-agree, counted-entries, counted-held, started-entries, started-agree, is-registered}
 use Rattle.machine.proofs.Load.{Loadable, placing, placing-room, placing-sound, placing-held}
 use Rattle.machine.proofs.Queueing.{queued-by-cases, any-places}
-use Rattle.machine.proofs.Step.{step-by-cases, Ready, ready, front-held, counting, counting-sound, counting-room}
+use Rattle.machine.proofs.Step.{step-by-cases, Ready, ready, front-held, counting, counting-sound, counting-free}
 
 -- the entries of a name after the pushes of a step
 record Grown (m : Machine) (t : List ℕ) (q : Queued) : Type 0 where
@@ -34,24 +34,28 @@ record Grown (m : Machine) (t : List ℕ) (q : Queued) : Type 0 where
   entries : (n : List ℕ) → entries_of q.machine n ≡ entries_of m n + q.pushes * one_if (same t n)
 
 grown : (x : Next) (e : Entry) (m : Machine) (t : List ℕ) → SoundHeader m → Held m.header e.name t → Agree m
-    → m.header.ring.length < length m.queue → Grown m t (queued x e m)
-grown x e m t s r a room =
+    → full m e.name ≡ false → Grown m t (queued x e m)
+grown x e m t s r a free =
     queued-by-cases (Grown m t) (λ p. Unit {0}) e m
     (record { agree = a; entries = λ n. omega arith })
-    (λ p q. record { agree = push-agree m (next p) t s r a room; entries = λ n. let h = push-entries m (next p) t s r a room n in omega arith })
+    (λ p q. record { agree = push-agree m (next p) t s r a left; entries = λ n. let h = push-entries m (next p) t s r a left n in omega arith })
     (λ p c q k f.
-    let b = push-sound m s (next p) r.below room in
-    let g = push-held m (next p) t s r a room in
-    let j = push-agree m (next p) t s r a room in
+    let b = push-sound m s (next p) r.below free in
+    let g = push-held m (next p) t s r a left in
+    let j = push-agree m (next p) t s r a left in
+    let l = room (push (next p) m) b e.name g.below f in
     record {
-      agree = started-agree c e.name (push (next p) m) t b g j (leb-false _ _ f);
+      agree = started-agree c e.name (push (next p) m) t b g j l;
       entries = λ n.
-          let h = push-entries m (next p) t s r a room n in
-          let i = started-entries c e.name (push (next p) m) t b g j (leb-false _ _ f) n in
+          let h = push-entries m (next p) t s r a left n in
+          let i = started-entries c e.name (push (next p) m) t b g j l n in
           omega arith;
     })
     x (any-places x)
   where
+    left : m.header.ring.length < length m.queue
+    left = room m s e.name r.below free
+
     next : ℕ → Entry
     next p = entry p e.thread e.name
 
@@ -71,7 +75,7 @@ stepped m r a =
     = grown (effect m).next (popped m) (counting m) t (counting-sound m r)
     (counted-held (core_after m) (pop m) (pop-held m t r.header held a r.some one))
     (counted-agree (core_after m) (pop m) (pop-agree m t r.header held a r.some one))
-    (counting-room m r) in
+    (counting-free m r) in
     record {
       agree = g.agree;
       had = λ n. let p = pop-entries m t r.header held a r.some one n in omega arith;
@@ -103,11 +107,11 @@ begun m given body origin place s a l =
     let g = is-registered m t s a n.core l.free fits in
     let b = placing-sound m given body place s l in
     let h = placing-held m given body place s l in
-    let room = placing-room m given body place l.room in
+    let left = placing-room m given body place s l in
     record {
-      agree = started-agree p i n t b h g.agree room;
+      agree = started-agree p i n t b h g.agree left;
       names = λ x. started-names p i n x ∙ registered-new m t s l.free fits x;
-      entries = λ x. started-entries p i n t b h g.agree room x ∙ ap (λ (k : ℕ). k + one_if (same t x)) (g.entries x);
+      entries = λ x. started-entries p i n t b h g.agree left x ∙ ap (λ (k : ℕ). k + one_if (same t x)) (g.entries x);
     }
   where
     fits : length (called given) ≤ 32
@@ -115,14 +119,14 @@ begun m given body origin place s a l =
 
 -- the answer is 0 exactly where the popped entry's name has entries left
 module _ (e : Entry) (m : Machine) (t : List ℕ) (s : SoundHeader m) (r : Held m.header e.name t) (a : Agree m)
-    (room : m.header.ring.length < length m.queue) (place : ℕ) where
+    (free : full m e.name ≡ false) (place : ℕ) where
   abbrev left : ℕ
   left = get_or m.header.counts e.name 0
 
   some_left : (x : Next) → 1 ≤ (queued x e m).pushes → eqb (entries_of (queued x e m).machine t) 0 ≡ false
   some_left x p =
       let g : entries_of (queued x e m).machine t ≡ entries_of m t + (queued x e m).pushes * 1
-      = subst (λ (b : Bool). entries_of (queued x e m).machine t ≡ entries_of m t + (queued x e m).pushes * one_if b) (same_refl t) ((grown x e m t s r a room).entries t) in
+      = subst (λ (b : Bool). entries_of (queued x e m).machine t ≡ entries_of m t + (queued x e m).pushes * one_if b) (same_refl t) ((grown x e m t s r a free).entries t) in
       ne_eqb _ 0 (λ (z : entries_of (queued x e m).machine t ≡ 0). let f : ⊥ = omega arith in f)
 
   split-pushes : (p c : ℕ) → 1 ≤ (queued (splits p c) e m).pushes
@@ -155,7 +159,7 @@ answered m r a =
     answer-left (popped m) (counting m) t (counting-sound m r)
     (counted-held (core_after m) (pop m) (pop-held m t r.header held a r.some r.entry.count))
     (counted-agree (core_after m) (pop m) (pop-agree m t r.header held a r.some r.entry.count))
-    (counting-room m r) (pc m) (effect m).next
+    (counting-free m r) (pc m) (effect m).next
 
 -- both for a step that executes an instruction
 module _ (m : Machine) (s : Shape m.header) (a : Agree m) where

@@ -2,12 +2,13 @@
 -- Assumes nothing.
 use Prim.Native.Nat.{ℕ, ◌≤◌, ◌<◌}
 use mathlib.Core.Path.{◌≡◌, refl, sym, ap, ◌∙◌}
-use mathlib.Core.Bool.{Bool, true, false, cond, true≢false}
+use mathlib.Core.Bool.{Bool, true, false, cond, not, ◌&&◌, true≢false}
 use mathlib.Core.List.{List, [], ◌∷◌}
 use native.Mathlib.Omega.{arith}
 use lib.Dec.{eqb, ltb}
 use lib.ListN.{length, set, length-set}
-use borrow.Author.Tests.{leb-false, ltb-false, not-false}
+use lib.Seq.{get_or-set_same}
+use borrow.Author.Tests.{leb-false, ltb-false, lt-leb, eqb-true, eqb-false, not-false}
 use Rattle.laws.proofs.Tests.{neither}
 use Rattle.laws.proofs.Every.{◌and◌, Every}
 use Rattle.cell.specs.Cells.{sound_word}
@@ -20,11 +21,11 @@ use Rattle.machine.specs.declared.Header.{Header}
 use Rattle.machine.specs.declared.Ring.{Ring}
 use Rattle.machine.specs.State.{Machine, Outcome, Verdict, accepted, refusal, first, settle}
 use Rattle.machine.specs.Names.{slot, is_new, seventeenth, register, registered, numbered}
-use Rattle.machine.specs.Queue.{slots, entries, push, started}
+use Rattle.machine.specs.Queue.{slots, entries, full, push, started}
 use Rattle.machine.specs.Load.{placed, loaded, load_checks, load}
 use Rattle.machine.proofs.Checks.{passed, number_of, Refused, refused}
 use Rattle.machine.proofs.Names.{Held}
-use Rattle.machine.proofs.Soundness.{SoundHeader, holding, registered-sound, registered-held, started-sound}
+use Rattle.machine.proofs.Soundness.{SoundHeader, p-is, room, holding, registered-sound, registered-held, started-sound}
 use Rattle.machine.proofs.Pointers.{SoundCore, word_set}
 
 -- the body in the core
@@ -56,7 +57,7 @@ pub record Loadable (m : Machine) (given body : List ℕ) (place : ℕ) : Type 0
   pub lawful : ltb (lowest_fault body) (instructions body) ≡ false
   pub valid : valid_name given ≡ true
   pub inside : place < m.header.rules.size
-  pub room : m.header.ring.length < length m.queue
+  pub less : (not (is_new m.header.names (called given)) && full m (slot m.header.names (called given))) ≡ false
   pub free : seventeenth m.header.names (called given) ≡ false
 
 pub loadable : (m : Machine) (given body : List ℕ) (place : ℕ) → first (load_checks m given body place) ≡ accepted → Loadable m given body place
@@ -68,7 +69,7 @@ loadable m given body place e =
       lawful = p.1.1.0;
       valid = not-false _ five.0;
       inside = leb-false _ _ five.1;
-      room = leb-false _ _ p.1.1.1.1.1.0;
+      less = p.1.1.1.1.1.0;
       free = p.1.1.1.1.0;
     }
 
@@ -87,9 +88,6 @@ module _ (m : Machine) (given body : List ℕ) (place : ℕ) where
   abbrev pub placing : Machine
   placing = holding (placed m.core place (cells m.header.rules.size body)) (registered m.header (called given)) m
 
-  pub placing-room : m.header.ring.length < length m.queue → placing.header.ring.length < length m.queue
-  placing-room h = rw (renamed m.header (called given)).ring h
-
   pub placing-entries : entries placing ≡ entries m
   unfolding entries
   placing-entries = ap (λ (r : Ring). slots m.queue r.head r.length) (renamed m.header (called given)).ring
@@ -105,6 +103,26 @@ module _ (m : Machine) (given body : List ℕ) (place : ℕ) where
 
   pub placing-held : SoundHeader m → Loadable m given body place → Held placing.header (slot m.header.names (called given)) (called given)
   placing-held s l = registered-held m (called given) s l.free (called-valid given l.valid).0
+
+  -- the name does not hold P; a new one holds none
+  pub placing-free : SoundHeader m → Loadable m given body place → full placing (slot m.header.names (called given)) ≡ false
+  unfolding register
+  placing-free s l = go (is_new m.header.names (called given)) refl l.less l.free
+    where
+      i : ℕ
+      i = slot m.header.names (called given)
+
+      go : (b : Bool) → is_new m.header.names (called given) ≡ b → (not b && full m i) ≡ false → (b && eqb m.header.names.held 16) ≡ false
+          → full (holding (placed m.core place (cells m.header.rules.size body)) (cond b (register m.header (called given)) m.header) m) i ≡ false
+      go false e f free = f
+      go true e f free =
+          let at : i ≡ m.header.names.held = eqb-true _ _ e in
+          let k : m.header.names.held ≡ 16 → ⊥ = eqb-false _ _ free in
+          rw (at, get_or-set_same m.header.counts m.header.names.held 0 0 (omega (arith, s.few, s.shape.counts)))
+          (lt-leb m.header.rules.processes 0 (p-is m s).some)
+
+  pub placing-room : SoundHeader m → Loadable m given body place → placing.header.ring.length < length m.queue
+  placing-room s l = room placing (placing-sound s l) (slot m.header.names (called given)) (placing-held s l).below (placing-free s l)
 
 module _ (m : Machine) (given body : List ℕ) (origin place : ℕ) where
   pub is-loaded : Loaded m body place (loaded m (called given) body origin place)
@@ -153,7 +171,7 @@ module _ (m : Machine) (given body : List ℕ) (origin place : ℕ) where
   unfolding loaded
   loaded-sound s l =
       started-sound _ (slot m.header.names (called given)) (placing m given body place) (placing-sound m given body place s l)
-      (placing-held m given body place s l).below (placing-room m given body place l.room)
+      (placing-held m given body place s l).below (placing-free m given body place s l)
 
   pub load-sound : SoundHeader m → SoundHeader (load m given body origin place).machine
   load-sound s = load-by-cases (λ o. SoundHeader o.machine) (λ n v e x. s) (λ e. loaded-sound s (loadable m given body place e))

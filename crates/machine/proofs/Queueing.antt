@@ -4,8 +4,6 @@ use Prim.Native.Nat.{ℕ, ◌≤◌, ◌<◌}
 use mathlib.Core.Path.{◌≡◌, refl}
 use mathlib.Core.Bool.{Bool, true, false, cond}
 use native.Mathlib.Omega.{arith}
-use lib.ListN.{length}
-use borrow.Author.Tests.{leb-false}
 use Rattle.machine.specs.declared.Entry.{Entry}
 use Rattle.machine.specs.State.{Machine}
 use Rattle.machine.specs.Names.{numbered}
@@ -15,7 +13,7 @@ use Rattle.machine.specs.Step.{Queued, queued}
 use Rattle.machine.proofs.Soundness.{SoundHeader, push-sound, started-sound}
 use Rattle.machine.proofs.Execution.{Places}
 
--- the three ways to queue: nothing; the next place; the next place and, where there is still room, a child
+-- the three ways to queue: nothing; the next place; the next place and, where the name does not hold P, a child
 module _ (P : Queued → Type 0) (Q : ℕ → Type 0) (e : Entry) (m : Machine) where
   abbrev next : ℕ → Machine
   next p = push (entry p e.thread e.name) m
@@ -62,12 +60,12 @@ queue-only x e m =
     }) x (any-places x)
 
 -- a sound header stays sound
-pub queued-sound : (x : Next) (e : Entry) (m : Machine) → SoundHeader m → e.name < m.header.names.held → m.header.ring.length < length m.queue
+pub queued-sound : (x : Next) (e : Entry) (m : Machine) → SoundHeader m → e.name < m.header.names.held → full m e.name ≡ false
     → SoundHeader (queued x e m).machine
 unfolding push
-queued-sound x e m s held room =
+queued-sound x e m s held free =
     queued-by-cases (λ q. SoundHeader q.machine) (λ p. Unit {0}) e m s
-    (λ p q. push-sound m s (entry p e.thread e.name) held room)
+    (λ p q. push-sound m s (entry p e.thread e.name) held free)
     (λ p c q r f.
-    started-sound c e.name (push (entry p e.thread e.name) m) (push-sound m s (entry p e.thread e.name) held room) held (leb-false _ _ f))
+    started-sound c e.name (push (entry p e.thread e.name) m) (push-sound m s (entry p e.thread e.name) held free) held f)
     x (any-places x)

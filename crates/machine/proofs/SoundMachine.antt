@@ -2,12 +2,12 @@
 -- Assumes nothing.
 use Prim.Native.Nat.{ℕ, ◌/◌, ◌^◌, ◌≤◌, ◌<◌}
 use mathlib.Core.Path.{◌≡◌, refl, sym, subst, ◌∙◌}
-use mathlib.Core.Bool.{true}
+use mathlib.Core.Bool.{true, false}
 use mathlib.Core.List.{List}
 use native.Mathlib.Omega.{arith}
 use lib.Dec.{leb}
 use lib.ListN.{length, get_or, length-replicate}
-use borrow.Author.Tests.{leb-true, leb-false, lt-ltb}
+use borrow.Author.Tests.{leb-true, lt-ltb}
 use Rattle.laws.specs.Lists.{same}
 use Rattle.laws.proofs.Tests.{both}
 use Rattle.laws.proofs.Every.{Every, every-replicate}
@@ -20,7 +20,7 @@ use Rattle.machine.specs.declared.Entry.{Entry}
 use Rattle.machine.specs.declared.Rules.{Rules}
 use Rattle.machine.specs.State.{Machine, accepted, first}
 use Rattle.machine.specs.Names.{slot, numbered}
-use Rattle.machine.specs.Queue.{entry, packed_entry, unpacked_entry, entries, name_of, entries_of, front, pop, push, started}
+use Rattle.machine.specs.Queue.{entry, packed_entry, unpacked_entry, entries, name_of, entries_of, front, full, pop, push, started}
 use Rattle.machine.specs.Soundness.{fresh_checks}
 use Rattle.machine.specs.Fresh.{fresh}
 use Rattle.machine.specs.Load.{origin_of, loaded, load_checks, load}
@@ -31,14 +31,14 @@ use Rattle.machine.proofs.Checks.{accepted-passes}
 use Rattle.machine.proofs.Entries.{packed-place, packed-top}
 use Rattle.machine.proofs.Queue.{tally-pop, every-pop, every-push}
 use Rattle.machine.proofs.Names.{held_at, count_at}
-use Rattle.machine.proofs.Soundness.{is-taken, SoundHeader, size-positive, size_small, counts-long, push-sound, numbered-sound, holding}
+use Rattle.machine.proofs.Soundness.{is-taken, SoundHeader, size-positive, size_small, counts-long, room, push-sound, numbered-sound, holding}
 use Rattle.machine.proofs.Agreement.{Agree}
 use Rattle.machine.proofs.Pointers.{SoundCore}
 use Rattle.machine.proofs.Execution.{Places}
 use Rattle.machine.proofs.Fresh.{fresh-accepted}
 use Rattle.machine.proofs.Load.{Loadable, loadable, is-loaded, placing, placing-room, placing-rules, placing-entries, placing-sound, load-by-cases, loaded-sound, loaded-core-sound}
 use Rattle.machine.proofs.Queueing.{queued-by-cases}
-use Rattle.machine.proofs.Step.{next-places, executed-core-sound, is-executed, step-by-cases, Ready, step-some, counting, counting-sound, counting-room, executed-sound}
+use Rattle.machine.proofs.Step.{next-places, executed-core-sound, is-executed, step-by-cases, Ready, step-some, counting, counting-sound, counting-free, executed-sound}
 use Rattle.machine.proofs.Bounds.{Bounded, blank-bounded, executed-bounded, loaded-bounded}
 use Rattle.machine.proofs.ByName.{stepped, begun}
 use Rattle.machine.proofs.Run.{run-keeps}
@@ -69,18 +69,20 @@ unfolding started numbered entries
 started-inside c i m s room p h =
     push-inside (entry c (get_or m.header.threads i 0) i) (holding m.core (numbered i m.header) m) (numbered-sound m s m.core s.core i) room p h
 
-queued-inside : (x : Next) (e : Entry) (m : Machine) → SoundHeader m → e.name < m.header.names.held → m.header.ring.length < length m.queue
+queued-inside : (x : Next) (e : Entry) (m : Machine) → SoundHeader m → e.name < m.header.names.held → full m e.name ≡ false
     → Places (λ p. p < m.header.rules.size) x → Every (Inside m.header.rules.size) (entries m)
     → Every (Inside m.header.rules.size) (entries (queued x e m).machine)
 unfolding push
-queued-inside x e m s held room places h =
+queued-inside x e m s held free places h =
     queued-by-cases (λ q. Every (Inside m.header.rules.size) (entries q.machine)) (λ p. p < m.header.rules.size) e m h one
     (λ p c q r f.
-    started-inside c e.name (push (entry p e.thread e.name) m) (push-sound m s (entry p e.thread e.name) held room) (leb-false _ _ f) r (one p q))
+    let n = push (entry p e.thread e.name) m in
+    let b = push-sound m s (entry p e.thread e.name) held free in
+    started-inside c e.name n b (room n b e.name held f) r (one p q))
     x places
   where
     one : (p : ℕ) → p < m.header.rules.size → Every (Inside m.header.rules.size) (entries (push (entry p e.thread e.name) m))
-    one p q = push-inside (entry p e.thread e.name) m s room q h
+    one p q = push-inside (entry p e.thread e.name) m s (room m s e.name held free) q h
 
 -- its front entry is sound
 module _ (m : Machine) (s : SoundMachine m) (some : 0 < m.header.ring.length) where
@@ -107,7 +109,7 @@ executed-inside : (m : Machine) → SoundMachine m → (some : 0 < m.header.ring
 unfolding executed counted pop entries
 executed-inside m s some =
     let r = sound-ready m s some in
-    queued-inside (effect m).next (popped m) (counting m) (counting-sound m r) r.entry.held (counting-room m r)
+    queued-inside (effect m).next (popped m) (counting m) (counting-sound m r) r.entry.held (counting-free m r)
     (next-places m s.core r.entry.place) (every-pop m some (Inside m.header.rules.size) s.entries).1
 
 executed-keeps : (m : Machine) → SoundMachine m → first (step_checks m) ≡ accepted → SoundMachine (executed m).machine
@@ -139,7 +141,7 @@ module _ (m : Machine) (given body : List ℕ) (origin place : ℕ) (s : SoundMa
   unfolding loaded
   loaded-inside l =
       started-inside (ahead m.header.rules.size place (origin_of origin)) (slot m.header.names (called given)) before
-      (placing-sound m given body place s.header l) (placing-room m given body place l.room)
+      (placing-sound m given body place s.header l) (placing-room m given body place s.header l)
       (rw (placing-rules m given body place) (ahead-lt m.header.rules.size place (origin_of origin) (size-positive m s.header)))
       (rw (placing-entries m given body place, placing-rules m given body place) s.entries)
 
@@ -175,6 +177,7 @@ fresh-sound rules core queue ok =
         size = t.size;
         core = length-replicate (length core) fresh_cell ∙ t.cells;
         queue = rw (length-replicate {A = ℕ} (length queue) 0) t.slots;
+        processes = rw (length-replicate {A = ℕ} (length queue) 0) t.processes;
         limits = t.limits;
         limit = omega arith;
         head = rw (length-replicate {A = ℕ} (length queue) 0) some;
@@ -183,6 +186,7 @@ fresh-sound rules core queue ok =
         bytes = refl;
         unlike = refl;
         sum = refl;
+        within = refl;
       };
       numbers = blank-bounded rules;
       agree = record { known = tt; counts = λ n. refl };

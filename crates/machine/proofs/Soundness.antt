@@ -1,6 +1,6 @@
 -- What fresh takes; a divisor of M; the sound header and front entry, test by test; what keeps a header sound: pop, push, a step counted, a next thread number, a name registered.
 -- Assumes nothing.
-use Prim.Native.Nat.{ℕ, ◌+◌, ◌-◌, ◌/◌, ◌%◌, ◌^◌, ◌≤◌, ◌<◌}
+use Prim.Native.Nat.{ℕ, ◌+◌, ◌-◌, ◌*◌, ◌/◌, ◌%◌, ◌^◌, ◌≤◌, ◌<◌, zero-le}
 use mathlib.Core.Path.{◌≡◌, refl, sym, ap, subst, ◌∙◌}
 use mathlib.Core.Bool.{Bool, true, false, cond, not, ◌&&◌, ◌||◌}
 use mathlib.Core.List.{List}
@@ -9,11 +9,11 @@ use native.Mathlib.Omega.{arith}
 use lib.Dec.{eqb, leb, ltb}
 use lib.ListN.{length, get_or, take, set, length-set}
 use lib.Seq.{take-set-lt, length-take-le, get_or-take}
-use borrow.Author.Tests.{leb-true, ltb-true, ltb-false, eqb-true, eqb-false, le-leb, lt-ltb, eq-eqb, not-false}
+use borrow.Author.Tests.{leb-true, leb-false, ltb-true, ltb-false, eqb-true, eqb-false, le-leb, lt-ltb, eq-eqb, not-false}
 use Rattle.laws.specs.Lists.{every, total, same, distinct}
 use Rattle.laws.proofs.Tests.{both, neither, holds, eqb_swap}
-use Rattle.laws.proofs.Every.{every-passes, every-at, every-snoc}
-use Rattle.laws.proofs.Tally.{total-set, total-snoc}
+use Rattle.laws.proofs.Every.{every-passes, every-at, every-set, every-snoc}
+use Rattle.laws.proofs.Tally.{total-set, total-snoc, total-most, total-below}
 use Rattle.laws.proofs.Same.{distinct_snoc}
 use Rattle.metadata.specs.Metadata.{valid_byte}
 use Rattle.machine.specs.declared.Header.{Header}
@@ -22,8 +22,8 @@ use Rattle.machine.specs.declared.Rules.{Rules}
 use Rattle.machine.specs.declared.Entry.{Entry}
 use Rattle.machine.specs.State.{Machine, under, with_core, with_queue, passes}
 use Rattle.machine.specs.Names.{names, slot, is_new, seventeenth, register, registered, numbered}
-use Rattle.machine.specs.Queue.{entry, unpacked_entry, front, pop, push, started}
-use Rattle.machine.specs.Soundness.{valid_size, valid_queue, divides, valid_limits, fresh_checks, header_tests, sound_header, sound_entry}
+use Rattle.machine.specs.Queue.{entry, unpacked_entry, front, full, pop, push, started}
+use Rattle.machine.specs.Soundness.{valid_size, valid_queue, valid_processes, divides, valid_limits, fresh_checks, header_tests, sound_header, sound_entry}
 use Rattle.machine.specs.Step.{counted}
 use Rattle.machine.proofs.Checks.{passed, accepts}
 use Rattle.machine.proofs.Names.{Shape, register-shape, length-names, take-held, names-register, Held, held-slot, held-register, new-register, held-not-new}
@@ -33,36 +33,53 @@ pub record Taken (rules : Rules) (core queue : List ℕ) : Type 0 where
   pub size : valid_size rules.size ≡ true
   pub cells : length core ≡ rules.size
   pub slots : valid_queue (length queue) ≡ true
+  pub processes : valid_processes rules.processes (length queue) ≡ true
   pub limits : valid_limits rules ≡ true
 
 pub is-taken : (rules : Rules) (core queue : List ℕ) → passes (fresh_checks rules core queue) ≡ true → Taken rules core queue
 is-taken rules core queue e =
     let p = passed (fresh_checks rules core queue) (accepts (fresh_checks rules core queue) e) in
-    let two = neither (not (eqb (length core) rules.size)) (not (valid_queue (length queue))) p.1.0 in
+    let two = neither (not (eqb (length core) rules.size) || not (valid_queue (length queue))) (not (valid_processes rules.processes (length queue))) p.1.0 in
+    let memories = neither (not (eqb (length core) rules.size)) (not (valid_queue (length queue))) two.0 in
     record {
       size = not-false _ p.0;
-      cells = eqb-true _ _ (not-false (eqb (length core) rules.size) two.0);
-      slots = not-false (valid_queue (length queue)) two.1;
+      cells = eqb-true _ _ (not-false (eqb (length core) rules.size) memories.0);
+      slots = not-false (valid_queue (length queue)) memories.1;
+      processes = not-false (valid_processes rules.processes (length queue)) two.1;
       limits = not-false (valid_limits rules) p.1.1.0;
     }
 
 pub takes : (rules : Rules) (core queue : List ℕ) → Taken rules core queue → passes (fresh_checks rules core queue) ≡ true
-takes rules core queue t = rw (t.size, eq-eqb (length core) rules.size t.cells, t.slots, t.limits)
+takes rules core queue t = rw (t.size, eq-eqb (length core) rules.size t.cells, t.slots, t.processes, t.limits)
 
--- as four tests
+-- as five tests
 pub taken-tests : (rules : Rules) (core queue : List ℕ)
     → passes (fresh_checks rules core queue)
-    ≡ (valid_size rules.size && (eqb rules.size (length core) && (valid_queue (length queue) && valid_limits rules)))
+    ≡ (valid_size rules.size && (eqb rules.size (length core) && (valid_queue (length queue) && (valid_processes rules.processes (length queue) && valid_limits rules))))
 taken-tests rules core queue =
-    go (valid_size rules.size) (eqb (length core) rules.size) (valid_queue (length queue)) (valid_limits rules)
-    ∙ ap (λ (b : Bool). valid_size rules.size && (b && (valid_queue (length queue) && valid_limits rules))) (eqb_swap (length core) rules.size)
+    go (valid_size rules.size) (eqb (length core) rules.size) (valid_queue (length queue)) (valid_processes rules.processes (length queue)) (valid_limits rules)
+    ∙ ap (λ (b : Bool). valid_size rules.size && (b && (valid_queue (length queue) && (valid_processes rules.processes (length queue) && valid_limits rules))))
+    (eqb_swap (length core) rules.size)
   where
-    go : (a b c d : Bool) → (not (not a) && (not (not b || not c) && (not (not d) && true))) ≡ (a && (b && (c && d)))
-    go false b c d = refl
-    go true false c d = refl
-    go true true false d = refl
-    go true true true false = refl
-    go true true true true = refl
+    go : (a b c d e : Bool) → (not (not a) && (not (not b || not c || not d) && (not (not e) && true))) ≡ (a && (b && (c && (d && e))))
+    go false b c d e = refl
+    go true false c d e = refl
+    go true true false d e = refl
+    go true true true false e = refl
+    go true true true true false = refl
+    go true true true true true = refl
+
+-- P as fresh takes it: at least 1, at most 4,095, and 16 times P at most the entries of the memory
+pub record Processes (processes slots : ℕ) : Type 0 where
+  pub some : 1 ≤ processes
+  pub most : processes ≤ 4095
+  pub room : 16 * processes ≤ slots
+
+pub is-processes : (processes slots : ℕ) → valid_processes processes slots ≡ true → Processes processes slots
+is-processes p slots e =
+    let b = both (leb 1 p && leb p 4095) (leb (16 * p) slots) e in
+    let c = both (leb 1 p) (leb p 4095) b.0 in
+    record { some = leb-true _ _ c.0; most = leb-true _ _ c.1; room = leb-true _ _ b.1 }
 
 -- a limit that divides M is 1 to M
 pub divisor-at-most : (limit size : ℕ) → 0 < size → divides limit size ≡ true → (0 < limit) × (limit ≤ size)
@@ -79,6 +96,7 @@ pub record Tested (m : Machine) : Type 0 where
   pub size : valid_size m.header.rules.size ≡ true
   pub core : length m.core ≡ m.header.rules.size
   pub queue : valid_queue (length m.queue) ≡ true
+  pub processes : valid_processes m.header.rules.processes (length m.queue) ≡ true
   pub limits : valid_limits m.header.rules ≡ true
   pub limit : m.header.ring.length ≤ length m.queue
   pub head : m.header.ring.head < length m.queue
@@ -87,6 +105,7 @@ pub record Tested (m : Machine) : Type 0 where
   pub bytes : every (every valid_byte) (names m.header.names) ≡ true
   pub unlike : distinct (names m.header.names) ≡ true
   pub sum : total (take m.header.names.held m.header.counts) ≡ m.header.ring.length
+  pub within : every (λ c. leb c m.header.rules.processes) (take m.header.names.held m.header.counts) ≡ true
 
 pub tested : (m : Machine) → sound_header m ≡ true → Tested m
 unfolding sound_header
@@ -97,6 +116,7 @@ tested m e =
       size = t.size;
       core = t.cells;
       queue = t.slots;
+      processes = t.processes;
       limits = t.limits;
       limit = leb-true _ _ h.1.0;
       head = ltb-true _ _ h.1.1.0;
@@ -105,6 +125,7 @@ tested m e =
       bytes = h.1.1.1.1.1.0;
       unlike = h.1.1.1.1.1.1.0;
       sum = eqb-true _ _ h.1.1.1.1.1.1.1.0;
+      within = h.1.1.1.1.1.1.1.1.0;
     }
 
 -- and the header's arrays
@@ -113,6 +134,7 @@ pub record SoundHeader (m : Machine) : Type 0 where
   pub size : valid_size m.header.rules.size ≡ true
   pub core : length m.core ≡ m.header.rules.size
   pub queue : valid_queue (length m.queue) ≡ true
+  pub processes : valid_processes m.header.rules.processes (length m.queue) ≡ true
   pub limits : valid_limits m.header.rules ≡ true
   pub limit : m.header.ring.length ≤ length m.queue
   pub head : m.header.ring.head < length m.queue
@@ -121,6 +143,7 @@ pub record SoundHeader (m : Machine) : Type 0 where
   pub bytes : every (every valid_byte) (names m.header.names) ≡ true
   pub unlike : distinct (names m.header.names) ≡ true
   pub sum : total (take m.header.names.held m.header.counts) ≡ m.header.ring.length
+  pub within : every (λ c. leb c m.header.rules.processes) (take m.header.names.held m.header.counts) ≡ true
 
 pub sound-header : (m : Machine) → Shape m.header → sound_header m ≡ true → SoundHeader m
 sound-header m s e =
@@ -130,6 +153,7 @@ sound-header m s e =
       size = t.size;
       core = t.core;
       queue = t.queue;
+      processes = t.processes;
       limits = t.limits;
       limit = t.limit;
       head = t.head;
@@ -138,13 +162,14 @@ sound-header m s e =
       bytes = t.bytes;
       unlike = t.unlike;
       sum = t.sum;
+      within = t.within;
     }
 
 pub header-sound : (m : Machine) → SoundHeader m → sound_header m ≡ true
 unfolding sound_header
 header-sound m s =
-    let t = takes m.header.rules m.core m.queue (record { size = s.size; cells = s.core; slots = s.queue; limits = s.limits }) in
-    rw (t, le-leb _ _ s.limit, lt-ltb _ _ s.head, le-leb _ _ s.few, s.lengths, s.bytes, s.unlike, eq-eqb _ _ s.sum)
+    let t = takes m.header.rules m.core m.queue (record { size = s.size; cells = s.core; slots = s.queue; processes = s.processes; limits = s.limits }) in
+    rw (t, le-leb _ _ s.limit, lt-ltb _ _ s.head, le-leb _ _ s.few, s.lengths, s.bytes, s.unlike, eq-eqb _ _ s.sum, s.within)
 
 module _ (m : Machine) (s : SoundHeader m) where
   pub size-positive : 0 < m.header.rules.size
@@ -168,6 +193,44 @@ module _ (m : Machine) (s : SoundHeader m) where
       (every-passes (λ k. leb 1 k && leb k 32) (take m.header.names.held m.header.names.lengths) s.lengths)
       (rw (length-take-le m.header.names.held m.header.names.lengths (omega (arith, s.shape.lengths, s.few))) h)))).1
 
+  -- P is as fresh takes it
+  pub p-is : Processes m.header.rules.processes (length m.queue)
+  p-is = is-processes _ _ s.processes
+
+  -- the counts of the names held, 16 at most
+  few-counts : (counts : List ℕ) → length counts ≡ 16 → length (take m.header.names.held counts) ≤ 16
+  few-counts counts k = let l = length-take-le m.header.names.held counts (omega (arith, k, s.few)) in omega (arith, s.few)
+
+  -- none of them over P, they fit into the queue memory
+  sum-fits : (counts : List ℕ) {n : ℕ} → length counts ≡ 16 → every (λ c. leb c m.header.rules.processes) (take m.header.names.held counts) ≡ true
+      → total (take m.header.names.held counts) ≡ n → n ≤ length m.queue
+  sum-fits counts k w e =
+      let l = total-most m.header.rules.processes (take m.header.names.held counts) 16 w (few-counts counts k) in
+      omega (arith, e, p-is.room)
+
+  -- a name that holds fewer than P leaves room
+  pub room : (i : ℕ) → i < m.header.names.held → full m i ≡ false → m.header.ring.length < length m.queue
+  room i h f =
+      let c : get_or (take m.header.names.held m.header.counts) i 0 < m.header.rules.processes
+      = rw (get_or-take m.header.names.held m.header.counts i 0 h) (leb-false m.header.rules.processes (get_or m.header.counts i 0) f) in
+      let l = total-below m.header.rules.processes (take m.header.names.held m.header.counts) 16 i s.within (few-counts m.header.counts s.shape.counts) (omega (arith, s.few)) c in
+      omega (arith, s.sum, p-is.room)
+
+  -- the count of a held name is at most P
+  pub count-most : (i : ℕ) → i < m.header.names.held → get_or m.header.counts i 0 ≤ m.header.rules.processes
+  count-most i h =
+      leb-true _ _ (subst (λ (k : ℕ). leb k m.header.rules.processes ≡ true) (get_or-take m.header.names.held m.header.counts i 0 h)
+      (every-at (λ c. leb c m.header.rules.processes ≡ true) (take m.header.names.held m.header.counts) i 0
+      (every-passes (λ c. leb c m.header.rules.processes) (take m.header.names.held m.header.counts) s.within)
+      (rw (length-take-le m.header.names.held m.header.counts counts-long) h)))
+
+  -- and so are all counts when that of a held name is set to one that is
+  within-set : (i v : ℕ) → i < m.header.names.held → v ≤ m.header.rules.processes
+      → every (λ c. leb c m.header.rules.processes) (take m.header.names.held (set m.header.counts i v)) ≡ true
+  within-set i v h l =
+      ap (every (λ c. leb c m.header.rules.processes)) (take-set-lt m.header.names.held m.header.counts i v h)
+      ∙ every-set (λ c. leb c m.header.rules.processes) (take m.header.names.held m.header.counts) i v s.within (le-leb _ _ l)
+
   -- one count set: the sum changes by it
   total-counts : (i v : ℕ) → i < m.header.names.held
       → total (take m.header.names.held (set m.header.counts i v)) + get_or m.header.counts i 0 ≡ m.header.ring.length + v
@@ -182,27 +245,29 @@ module _ (m : Machine) (s : SoundHeader m) where
       → length core ≡ m.header.rules.size
       → length queue ≡ length m.queue
       → ring.head < length m.queue
-      → ring.length ≤ length m.queue
       → length counts ≡ 16
       → total (take m.header.names.held counts) ≡ ring.length
+      → every (λ c. leb c m.header.rules.processes) (take m.header.names.held counts) ≡ true
       → length threads ≡ 16
       → SoundHeader (with_core core (with_queue queue
       (record { rules = m.header.rules; ring = ring; steps = steps; names = m.header.names; counts = counts; threads = threads })
       m))
-  same_names core queue ring steps counts threads c q h l k t u =
+  same_names core queue ring steps counts threads c q h k t w u =
       record {
         shape = record { names = s.shape.names; lengths = s.shape.lengths; counts = k; threads = u };
         size = s.size;
         core = c;
         queue = rw q s.queue;
+        processes = rw q s.processes;
         limits = s.limits;
-        limit = rw q l;
+        limit = rw q (sum-fits counts k w t);
         head = rw q h;
         few = s.few;
         lengths = s.lengths;
         bytes = s.bytes;
         unlike = s.unlike;
         sum = t;
+        within = w;
       }
 
   pub pop-sound : 0 < m.header.ring.length → (unpacked_entry (front m)).name < m.header.names.held
@@ -211,20 +276,22 @@ module _ (m : Machine) (s : SoundHeader m) where
   pop-sound some held one =
       let i = (unpacked_entry (front m)).name in
       let t = total-counts i (get_or m.header.counts i 0 - 1) held in
+      let l = count-most i held in
       same_names m.core m.queue _ _ _ _ s.core refl (mod-lt (m.header.ring.head + 1) (omega (arith, s.head)))
-      (let l = s.limit in omega arith) (length-set m.header.counts _ _ ∙ s.shape.counts) (omega arith) s.shape.threads
+      (length-set m.header.counts _ _ ∙ s.shape.counts) (omega arith) (within-set i _ held (omega arith)) s.shape.threads
 
-  pub push-sound : (e : Entry) → e.name < m.header.names.held → m.header.ring.length < length m.queue → SoundHeader (push e m)
+  pub push-sound : (e : Entry) → e.name < m.header.names.held → full m e.name ≡ false → SoundHeader (push e m)
   unfolding push
-  push-sound e held room =
+  push-sound e held free =
       let t = total-counts e.name (get_or m.header.counts e.name 0 + 1) held in
-      same_names m.core _ _ _ _ _ s.core (length-set m.queue _ _) s.head (omega arith)
-      (length-set m.header.counts _ _ ∙ s.shape.counts) (omega arith) s.shape.threads
+      let l = leb-false m.header.rules.processes (get_or m.header.counts e.name 0) free in
+      same_names m.core _ _ _ _ _ s.core (length-set m.queue _ _) s.head
+      (length-set m.header.counts _ _ ∙ s.shape.counts) (omega arith) (within-set e.name _ held (omega arith)) s.shape.threads
 
   -- count one step, with another core
   pub counted-sound : (core : List ℕ) → length core ≡ m.header.rules.size → SoundHeader (counted core m)
   unfolding counted
-  counted-sound core c = same_names core m.queue _ _ _ _ c refl s.head s.limit s.shape.counts s.sum s.shape.threads
+  counted-sound core c = same_names core m.queue _ _ _ _ c refl s.head s.shape.counts s.sum s.within s.shape.threads
 
 -- the same queue memory beside another core and header
 abbrev pub holding : List ℕ → Header → Machine → Machine
@@ -235,7 +302,7 @@ module _ (m : Machine) (s : SoundHeader m) (core : List ℕ) (c : length core �
   pub numbered-sound : (i : ℕ) → SoundHeader (holding core (numbered i m.header) m)
   unfolding numbered
   numbered-sound i =
-      same_names m s core m.queue _ _ _ _ c refl s.head s.limit s.shape.counts s.sum
+      same_names m s core m.queue _ _ _ _ c refl s.head s.shape.counts s.sum s.within
       (length-set m.header.threads _ _ ∙ s.shape.threads)
 
   module _ (n : List ℕ) (fits : length n ≤ 32) (some : 1 ≤ length n) (valid : every valid_byte n ≡ true) where
@@ -249,6 +316,7 @@ module _ (m : Machine) (s : SoundHeader m) (core : List ℕ) (c : length core �
           size = s.size;
           core = c;
           queue = s.queue;
+          processes = s.processes;
           limits = s.limits;
           limit = s.limit;
           head = s.head;
@@ -259,6 +327,9 @@ module _ (m : Machine) (s : SoundHeader m) (core : List ℕ) (c : length core �
           bytes = ap (every (every valid_byte)) news ∙ every-snoc (every valid_byte) (names h.names) n s.bytes valid;
           unlike = ap distinct news ∙ distinct_snoc (names h.names) n s.unlike (e ∙ sym (length-names h));
           sum = ap total (take-held h h.counts 0 (omega (arith, s.shape.counts))) ∙ total-snoc (take h.names.held h.counts) ∙ s.sum;
+          within =
+              ap (every (λ c. leb c h.rules.processes)) (take-held h h.counts 0 (omega (arith, s.shape.counts)))
+              ∙ every-snoc (λ c. leb c h.rules.processes) (take h.names.held h.counts) 0 s.within (le-leb 0 h.rules.processes zero-le);
         }
 
     -- a name, held or new
@@ -268,7 +339,7 @@ module _ (m : Machine) (s : SoundHeader m) (core : List ℕ) (c : length core �
         go : (b : Bool) → is_new m.header.names n ≡ b → (b && eqb m.header.names.held 16) ≡ false
             → SoundHeader (holding core (cond b (register m.header n) m.header) m)
         go true e free = let k : m.header.names.held ≡ 16 → ⊥ = eqb-false _ _ free in register-sound (eqb-true _ _ e) (omega (arith, s.few))
-        go false e free = same_names m s core m.queue _ _ _ _ c refl s.head s.limit s.shape.counts s.sum s.shape.threads
+        go false e free = same_names m s core m.queue _ _ _ _ c refl s.head s.shape.counts s.sum s.within s.shape.threads
 
 -- a registered name is held at its slot
 pub registered-held : (m : Machine) (n : List ℕ) → SoundHeader m → seventeenth m.header.names n ≡ false → length n ≤ 32
@@ -295,12 +366,11 @@ registered-new m t s free fits n = go (is_new m.header.names t) refl free
         new-register m.header t (names-register m.header t s.shape (omega (arith, s.few)) fits (name-short m s)) n
 
 -- a process started
-pub started-sound : (place i : ℕ) (m : Machine) → SoundHeader m → i < m.header.names.held → m.header.ring.length < length m.queue
-    → SoundHeader (started place i m)
+pub started-sound : (place i : ℕ) (m : Machine) → SoundHeader m → i < m.header.names.held → full m i ≡ false → SoundHeader (started place i m)
 unfolding started numbered
-started-sound place i m s held room =
+started-sound place i m s held free =
     push-sound (holding m.core (numbered i m.header) m) (numbered-sound m s m.core s.core i)
-    (entry place (get_or m.header.threads i 0) i) held room
+    (entry place (get_or m.header.threads i 0) i) held free
 
 -- the tests of a front entry
 pub record SoundEntry (h : Header) (w : ℕ) : Type 0 where

@@ -1,6 +1,6 @@
 -- Laws of a step. For every machine: refusals, steps counted, lengths, writes, pushes. A sound header and a sound core stay sound.
 -- Assumes nothing.
-use Prim.Native.Nat.{ℕ, ◌+◌, ◌≤◌, ◌<◌}
+use Prim.Native.Nat.{ℕ, ◌+◌, ◌-◌, ◌≤◌, ◌<◌}
 use mathlib.Core.Path.{◌≡◌, refl, sym, ap, ◌∙◌}
 use mathlib.Core.Bool.{Bool, true, false, cond, ◌||◌, true≢false}
 use mathlib.Core.List.{List, [], ◌∷◌}
@@ -8,8 +8,9 @@ use mathlib.Core.Option.{Option, none, some}
 use native.Mathlib.Nat.{add-zero}
 use native.Mathlib.Omega.{arith}
 use lib.Dec.{eqb}
-use lib.ListN.{length, length-append, length-set}
-use borrow.Author.Tests.{eqb-false, not-false}
+use lib.ListN.{length, get_or, length-append, length-set}
+use lib.Seq.{get_or-set_same}
+use borrow.Author.Tests.{lt-leb, eqb-false, not-false}
 use Rattle.laws.specs.Lists.{one_if, among, every}
 use Rattle.laws.proofs.Tests.{neither}
 use Rattle.laws.proofs.Every.{◌and◌, every-join}
@@ -18,14 +19,14 @@ use Rattle.cell.specs.declared.Cell.{Cell}
 use Rattle.cell.specs.Cells.{sound_word}
 use Rattle.types.specs.Opcode.{LDP, STP}
 use Rattle.machine.specs.State.{Machine, Outcome, Verdict, accepted, refusal, first, settle}
-use Rattle.machine.specs.Queue.{front, name_of, pop}
+use Rattle.machine.specs.Queue.{front, name_of, full, pop}
 use Rattle.machine.specs.Pointers.{Site}
 use Rattle.machine.specs.Execution.{Ending, dat, divisor, Next, ends, goes, splits}
 use Rattle.machine.specs.Instruction.{a_operand, b_operand, scene_at, effect_at, store_to, stored_at, seen_at, written_at}
 use Rattle.machine.specs.Step.{popped, pc, site, instruction, operand_a, operand_b, effect, core_after, step_written, step_writes, counted, end_told, next_told, executed, step_checks, step, executes}
 use Rattle.machine.proofs.Checks.{passed, number_of, Refused, refused}
 use Rattle.machine.proofs.Names.{Shape, Held, held_at}
-use Rattle.machine.proofs.Soundness.{SoundHeader, sound-header, pop-sound, counted-sound, SoundEntry, sound-entry}
+use Rattle.machine.proofs.Soundness.{SoundHeader, counts-long, room, count-most, sound-header, pop-sound, counted-sound, SoundEntry, sound-entry}
 use Rattle.machine.proofs.Pointers.{length-operand, operand-writes, SoundCore, cell_set, fields_at, SoundOperand, operand_sound}
 use Rattle.machine.proofs.Queueing.{queue-only, queued-sound}
 use Rattle.machine.proofs.Execution.{Places, SoundStore, SoundEffect, effect-sound}
@@ -231,19 +232,27 @@ module _ (m : Machine) (r : Ready m) where
   pub counting-sound : SoundHeader (counting m)
   counting-sound = counted-sound (pop m) (pop-sound m r.header r.some r.entry.held r.entry.count) (core_after m) pop-size
 
-  pub counting-room : (counting m).header.ring.length < length (counting m).queue
+  -- and holds fewer than P
+  pub counting-free : full (counting m) (popped m).name ≡ false
   unfolding counted pop
-  counting-room = omega (arith, r.some, r.header.limit)
+  counting-free =
+      let c = get_or m.header.counts (popped m).name 0 in
+      let l = count-most m r.header (popped m).name r.entry.held in
+      rw (get_or-set_same m.header.counts (popped m).name (c - 1) 0 (omega (arith, r.entry.held, counts-long m r.header)))
+      (lt-leb m.header.rules.processes (c - 1) (omega (arith, r.entry.count)))
 
   pub counting-held : (popped m).name < (counting m).header.names.held
   unfolding counted pop
   counting-held = r.entry.held
 
+  pub counting-room : (counting m).header.ring.length < length (counting m).queue
+  counting-room = room (counting m) counting-sound (popped m).name counting-held counting-free
+
 -- a sound header stays sound
 pub executed-sound : (m : Machine) → Ready m → SoundHeader (executed m).machine
 unfolding executed
 executed-sound m r =
-    queued-sound (effect m).next (popped m) (counting m) (counting-sound m r) (counting-held m r) (counting-room m r)
+    queued-sound (effect m).next (popped m) (counting m) (counting-sound m r) (counting-held m r) (counting-free m r)
 
 pub step-sound : (m : Machine) → SoundHeader m → SoundHeader (step m).machine
 step-sound m s = step-by-cases (λ o. SoundHeader o.machine) m (λ n v e x. s) (λ e. executed-sound m (ready m s.shape e))

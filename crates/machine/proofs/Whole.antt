@@ -47,9 +47,9 @@ twice true true = refl
 twice true false = refl
 twice false y = refl
 
-module _ (size pc n : ℕ) where
+module _ (size processes pc n : ℕ) where
   abbrev whole-site : Site
-  whole-site = site_at (of_size size) pc
+  whole-site = site_at (of_size size processes) pc
 
   abbrev location : ℕ
   location = ahead size pc n
@@ -113,15 +113,15 @@ is-unlimited rules e =
     let b = both (eqb rules.read rules.size) (eqb rules.write rules.size) e in
     record { read = eqb-true _ _ b.0; write = eqb-true _ _ b.1 }
 
-pub unlimited-is : (rules : Rules) → Unlimited rules → rules ≡ of_size rules.size
-unlimited-is rules u = λ i. record { size = rules.size; read = u.read i; write = u.write i }
+pub unlimited-is : (rules : Rules) → Unlimited rules → rules ≡ of_size rules.size rules.processes
+unlimited-is rules u = λ i. record { size = rules.size; read = u.read i; write = u.write i; processes = rules.processes }
 
 pub whole-operand : (s : Site) (core : List ℕ) (mode n : ℕ) → Unlimited s.rules → valid_size s.rules.size ≡ true → length core ≡ s.rules.size
     → SameOperand (operand s core mode n) (former s core mode n)
 whole-operand s core mode n u v long =
     let z = both (leb 1 s.rules.size) (leb s.rules.size 46341) v in
     subst (λ (r : Rules). SameOperand (operand (site_at r s.pc) core mode n) (former (site_at r s.pc) core mode n)) (sym (unlimited-is s.rules u))
-    (same_operand s.rules.size s.pc n core (leb-true _ _ z.0) (leb-true _ _ z.1) long mode)
+    (same_operand s.rules.size s.rules.processes s.pc n core (leb-true _ _ z.0) (leb-true _ _ z.1) long mode)
 
 module _ (s : Site) (core : List ℕ) (u : Unlimited s.rules) (v : valid_size s.rules.size ≡ true) (long : length core ≡ s.rules.size) where
   pub whole-a : SameOperand (a_operand s core) (former_a s core)

@@ -1,6 +1,6 @@
--- 01, 'Battles to prove': one table. Each row has what the definitions give, and what 01 says. The theorem is in proofs/Battles.antt.
+-- 01, 'Battles to prove' (its queue of 1 entry is a P of 1: 02, A.4): one table. Each row has what the definitions give, and what 01 says. The theorem is in proofs/Battles.antt.
 -- Believed. Assumes nothing.
-use Rattle.std.specs.Prelude.{ℕ, ◌-◌, ◌^◌, ◌≡◌, List, [], ◌∷◌, ◌++◌, map, pos, negsuc, length, get_or, replicate}
+use Rattle.std.specs.Prelude.{ℕ, ◌-◌, ◌*◌, ◌^◌, ◌≡◌, List, [], ◌∷◌, ◌++◌, map, pos, negsuc, length, get_or, replicate}
 use Rattle.offset.specs.Offset.{euclid}
 use Rattle.cell.specs.Cells.{packed, relative, fresh_cell, sound_word}
 use Rattle.types.specs.Defaults.{unnamed}
@@ -37,9 +37,9 @@ datum a b = bytes DAT modifier.F mode.Direct a mode.Direct b
 abbrev pub cell : ℕ → ℕ → ℕ
 cell a b = word DAT modifier.F mode.Direct a mode.Direct b
 
--- a fresh machine of that size and queue memory, with a body at 0 and one entry there
+-- a fresh machine of that size, P and 16 times P entries of queue memory, with a body at 0 and one entry there
 abbrev pub board : ℕ → ℕ → List ℕ → Machine
-board size limit body = (load (fresh (of_size size) (replicate size 0) (replicate limit 0)).machine [] body 65535 0).machine
+board size processes body = (load (fresh (of_size size processes) (replicate size 0) (replicate (16 * processes) 0)).machine [] body 65535 0).machine
 
 -- place and thread number of each entry
 abbrev pub threads : List ℕ → List ℕ
@@ -48,7 +48,7 @@ threads (w ∷ ws) = (unpacked_entry w).place.0 ∷ (unpacked_entry w).thread �
 
 -- one step of M 8: number, value, writes, the core and the queue
 abbrev pub battle : ℕ → List ℕ → List ℕ
-battle limit body = let o = step (board 8 limit body) in o.number ∷ o.value ∷ o.writes ∷ (o.machine.core ++ threads (entries o.machine))
+battle processes body = let o = step (board 8 processes body) in o.number ∷ o.value ∷ o.writes ∷ (o.machine.core ++ threads (entries o.machine))
 
 -- the same as 01 says it; untold cells are fresh
 abbrev pub says : ℕ → ℕ → ℕ → List ℕ → List ℕ → List ℕ
@@ -62,10 +62,10 @@ battles =
     -- sizes 0, 46,342 refused; 1, 46,341 accepted
     ∷ record {
       got =
-          (fresh (of_size 0) [] (0 ∷ [])).number
-          ∷ (fresh (of_size 46342) (replicate 46342 0) (0 ∷ [])).number
-          ∷ (fresh (of_size 1) (0 ∷ []) (0 ∷ [])).number
-          ∷ (fresh (of_size 46341) (replicate 46341 0) (0 ∷ [])).number
+          (fresh (of_size 0 1) [] (replicate 16 0)).number
+          ∷ (fresh (of_size 46342 1) (replicate 46342 0) (replicate 16 0)).number
+          ∷ (fresh (of_size 1 1) (0 ∷ []) (replicate 16 0)).number
+          ∷ (fresh (of_size 46341 1) (replicate 46341 0) (replicate 16 0)).number
           ∷ [];
       wanted = 1 ∷ 1 ∷ 0 ∷ 0 ∷ [];
     }
@@ -120,7 +120,7 @@ battles =
       got = battle 8 (bytes SEQ modifier.I mode.Direct 1 mode.PostIncIndirectB 1);
       wanted = says 0 0 1 (word SEQ modifier.I mode.Direct 1 mode.PostIncIndirectB 1 ∷ cell 0 1 ∷ []) (1 ∷ 0 ∷ []);
     }
-    -- SPL $2: (1, thread 0), (2, thread 1); queue of 1 entry: the first
+    -- SPL $2: (1, thread 0), (2, thread 1); P 1 (02, A.4): the first
     ∷ record {
       got = battle 8 (bytes SPL unnamed mode.Direct 2 mode.Direct 0);
       wanted = says 0 0 0 (word SPL modifier.B mode.Direct 2 mode.Direct 0 ∷ []) (1 ∷ 0 ∷ 2 ∷ 1 ∷ []);

@@ -20,6 +20,12 @@ pub data Next : Type 0 where
   goes : ℕ → Next
   splits : ℕ → ℕ → Next
 
+-- two next places: SPL's, PC+1 and its child's
+abbrev pub is_split : Next → Bool
+is_split (ends x) = false
+is_split (goes p) = false
+is_split (splits p c) = true
+
 -- the target cell as stored, if any field is, and the next places
 pub record Effect : Type 0 where
   pub cell : Option Cell

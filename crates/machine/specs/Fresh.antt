@@ -1,4 +1,4 @@
--- The fresh machine (01, 'Queue and names'; 02, A.2).
+-- The fresh machine (01, 'Queue and names'; 02, A.2 and A.4).
 -- Believed. Assumes nothing.
 use Rattle.std.specs.Prelude.{ℕ, List, length, replicate}
 use Rattle.cell.specs.Cells.{fresh_cell}
@@ -26,7 +26,7 @@ fresh_machine rules core queue =
 
 -- a refusal leaves the memories as they are lent, and gives a header of zeros
 abbrev pub lent : List ℕ → List ℕ → Machine
-lent core queue = record { core = core; queue = queue; header = blank (of_size 0) }
+lent core queue = record { core = core; queue = queue; header = blank (of_size 0 0) }
 
 unfoldable pub fresh : Rules → List ℕ → List ℕ → Outcome
 fresh rules core queue =

@@ -10,5 +10,6 @@ pub mod Instruction
 pub mod Step
 pub mod Run
 pub mod Whole
+pub mod ProcessLimit
 pub mod Battles
 pub mod Inner

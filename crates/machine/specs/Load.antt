@@ -1,4 +1,4 @@
--- Load (01, 'Load'): placing a body under a name, and starting a process there.
+-- Load (01, 'Load'; 02, A.4): placing a body under a name, and starting a process there.
 -- Believed. Assumes nothing.
 use Rattle.std.specs.Prelude.{ℕ, cond, not, ◌&&◌, ◌||◌, List, [], ◌∷◌, ◌++◌, eqb, leb, ltb, length, get_or}
 use Rattle.offset.specs.Offset.{ahead}
@@ -36,13 +36,13 @@ place_checks m given body place =
     ∷ check (seventeenth h.names (called given)) 6
     ∷ []
 
--- starting: 6 for a full queue, 8
+-- starting: 6 when the name holds P, 8; a name that is not held holds none
 abbrev pub start_checks : Machine → List ℕ → List Check
 start_checks m given =
     let h = m.header in
     let name = called given in
     let i = slot h.names name in
-    check (full m i) 6 ∷ check (not (is_new h.names name) && eqb (get_or h.threads i 0) 4294967295) 8 ∷ []
+    check (not (is_new h.names name) && full m i) 6 ∷ check (not (is_new h.names name) && eqb (get_or h.threads i 0) 4294967295) 8 ∷ []
 
 -- order of load: 9 (header), 3, 4, 5, 6, 8
 abbrev pub load_checks : Machine → List ℕ → List ℕ → ℕ → List Check

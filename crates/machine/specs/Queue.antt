@@ -1,4 +1,4 @@
--- The queue (01, 'Queue and names'): entries, front, pop and push. Nothing else looks into the ring.
+-- The queue (01, 'Queue and names'; 02, A.4): entries, front, pop and push. Nothing else looks into the ring.
 -- Believed. Assumes nothing.
 use Rattle.std.specs.Prelude.{ℕ, zero, suc, ◌+◌, ◌-◌, ◌*◌, ◌/◌, ◌%◌, ◌^◌, Bool, List, [], ◌∷◌, leb, length, get_or, set}
 use Rattle.laws.specs.Lists.{tally, same}
@@ -35,9 +35,9 @@ name_of m w = get_or (names m.header.names) (unpacked_entry w).name []
 abbrev pub entries_of : Machine → List ℕ → ℕ
 entries_of m n = tally (λ w. same (name_of m w) n) (entries m)
 
--- no room for an entry of the name at an index: the process limit is the queue memory's length and covers all names together
+-- the process limit belongs to each warrior: the name at an index holds P entries
 abbrev pub full : Machine → ℕ → Bool
-full m i = leb (length m.queue) m.header.ring.length
+full m i = leb m.header.rules.processes (get_or m.header.counts i 0)
 
 -- first in, first out
 abbrev pub front : Machine → ℕ
@@ -58,7 +58,7 @@ pop m =
     (set h.counts i (get_or h.counts i 0 - 1)))
     m
 
--- pushing raises the count and writes the slot at head + length, modulo the limit
+-- pushing raises the count and writes the slot at head + length, modulo the memory's length
 unfoldable pub push : Entry → Machine → Machine
 push e m =
     let h = m.header in

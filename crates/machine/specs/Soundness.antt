@@ -1,6 +1,6 @@
--- What fresh takes, and the sound record (01, 'What a call gives back', under the table; 02, A.2).
+-- What fresh takes, and the sound record (01, 'What a call gives back', under the table; 02, A.2 and A.4).
 -- Believed. Assumes nothing. That steps taken and next thread numbers are at most 4,294,967,295 holds by their type, u32.
-use Rattle.std.specs.Prelude.{ℕ, ◌/◌, ◌%◌, ◌^◌, Bool, not, ◌&&◌, ◌||◌, List, [], ◌∷◌, eqb, leb, ltb, length, get_or, take}
+use Rattle.std.specs.Prelude.{ℕ, ◌*◌, ◌/◌, ◌%◌, ◌^◌, Bool, not, ◌&&◌, ◌||◌, List, [], ◌∷◌, eqb, leb, ltb, length, get_or, take}
 use Rattle.laws.specs.Lists.{all, every, total, distinct}
 use Rattle.metadata.specs.Metadata.{valid_byte}
 use Rattle.machine.specs.declared.Header.{Header}
@@ -17,6 +17,10 @@ valid_size size = leb 1 size && leb size 46341
 abbrev pub valid_queue : ℕ → Bool
 valid_queue slots = leb 1 slots && leb slots 65535
 
+-- P is 1 to 4,095 and the queue memory has 16 times P entries or more
+abbrev pub valid_processes : ℕ → ℕ → Bool
+valid_processes processes slots = leb 1 processes && leb processes 4095 && leb (16 * processes) slots
+
 -- not 14: a read limit and a write limit, each a divisor of M; 0 divides no M
 abbrev pub divides : ℕ → ℕ → Bool
 divides limit size = leb 1 limit && eqb (size % limit) 0
@@ -28,13 +32,13 @@ valid_limits rules = divides rules.read rules.size && divides rules.write rules.
 abbrev pub fresh_checks : Rules → List ℕ → List ℕ → List Check
 fresh_checks rules core queue =
     check (not (valid_size rules.size)) 1
-    ∷ check (not (eqb (length core) rules.size) || not (valid_queue (length queue))) 2
+    ∷ check (not (eqb (length core) rules.size) || not (valid_queue (length queue)) || not (valid_processes rules.processes (length queue))) 2
     ∷ check (not (valid_limits rules)) 14
     ∷ []
 
--- a header is sound when M, the memories' lengths and the limits are such as fresh takes: M is valid and is the core memory's length, the queue
--- memory has 1 to 65,535 entries, each limit divides M; length is at most the queue memory's and head below it, at most 16 names are held, each valid, not empty and unlike the others,
--- and the names' counts sum to the length
+-- a header is sound when M, the memories' lengths, P and the limits are such as fresh takes: M is valid and is the core memory's length, the queue
+-- memory has 1 to 65,535 entries, and 16 times P or more of a P of 1 to 4,095, each limit divides M; length is at most the queue memory's and head below it, at most 16 names are held, each valid, not empty and unlike the others,
+-- and the names' counts sum to the length, none of them over P
 abbrev pub header_tests : Machine → List Bool
 header_tests m =
     let h = m.header in
@@ -46,6 +50,7 @@ header_tests m =
     ∷ every (every valid_byte) (names h.names)
     ∷ distinct (names h.names)
     ∷ eqb (total (take h.names.held h.counts)) h.ring.length
+    ∷ every (λ c. leb c h.rules.processes) (take h.names.held h.counts)
     ∷ []
 
 unfoldable pub sound_header : Machine → Bool

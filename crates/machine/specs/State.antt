@@ -6,9 +6,9 @@ use Rattle.laws.specs.Lists.{every}
 use Rattle.machine.specs.declared.Header.{Header}
 use Rattle.machine.specs.declared.Rules.{Rules}
 
--- the rules of a core of that size, with both limits M
-abbrev pub of_size : ℕ → Rules
-of_size size = record { size = size; read = size; write = size }
+-- the rules of a core of that size and a process limit, with both other limits M
+abbrev pub of_size : ℕ → ℕ → Rules
+of_size size processes = record { size = size; read = size; write = size; processes = processes }
 
 -- the core memory, the queue memory and the header
 pub record Machine : Type 0 where

@@ -1,4 +1,4 @@
--- One step (01, 'One step').
+-- One step (01, 'One step'; 02, A.4).
 -- Believed. Assumes nothing.
 use Rattle.std.specs.Prelude.{ℕ, ◌+◌, Bool, cond, not, ◌||◌, List, [], ◌∷◌, eqb, length, get_or}
 use Rattle.answer.specs.Numbers.{Told, gives}
@@ -59,7 +59,8 @@ pub record Queued : Type 0 where
   pub pushes : ℕ
 
 -- an ended process pushes nothing; others push the next place
--- SPL pushes PC+1 with its thread number, then the A pointer with a new one; if the queue is then full the child is dropped and no number used
+-- SPL pushes PC+1 with its thread number, then the A pointer with a new one; the child is dropped, and no number used, when its name already holds
+-- P entries after PC+1 is queued
 abbrev pub queued : Next → Entry → Machine → Queued
 queued (ends x) e m = record { machine = m; pushes = 0 }
 queued (goes p) e m = record { machine = push (entry p e.thread e.name) m; pushes = 1 }

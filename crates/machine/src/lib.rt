@@ -7,13 +7,14 @@ use offset::Absolute;
 
 pub mod limits;
 
-// What fresh fixes and no call changes: the core's size, the read limit and the write limit (02, A.2).
+// What fresh fixes and no call changes: the core's size, the read limit and the write limit (02, A.2), and the process limit P of each name (02, A.4).
 #[repr(C)]
 #[derive(Clone, Copy)]
 pub struct Rules {
     pub size: u32,
     pub read: u32,
     pub write: u32,
+    pub processes: u32,
 }
 
 // Where the ring of queued processes begins, and how many entries it has.

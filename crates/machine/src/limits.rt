@@ -6,6 +6,9 @@ pub const LARGEST_CORE: u32 = 46341;
 // The most entries that a queue's memory has.
 pub const MOST_ENTRIES: usize = 65535;
 
+// The largest process limit.
+pub const MOST_PROCESSES: u32 = 4095;
+
 // The last number of steps taken, of a count and of a next thread number.
 pub const LAST_NUMBER: u32 = 4294967295;
 

@@ -38,14 +38,6 @@ stepped answer writes tail = record { answer = answer; writes = writes; tail = t
 abbrev pub onward : ℕ → Processes → Processes
 onward head p = record { ring = ring_of head p.ring.length; steps = p.steps; counts = p.counts; threads = p.threads }
 
--- a count lowered and raised again
-lower-raise : (l : List ℕ) (n : ℕ) → n < length l → 0 < get_or l n 0 → l ≡ set (set l n (get_or l n 0 - 1)) n (get_or (set l n (get_or l n 0 - 1)) n 0 + 1)
-lower-raise l n h p =
-    sym (set-set l n _ _ ∙ ap (λ (v : ℕ). set l n (v + 1)) (get_or-set_same l n (get_or l n 0 - 1) 0 h) ∙ ap (set l n) (back p) ∙ set-get_or l n 0)
-  where
-    back : {k : ℕ} → 0 < k → k - 1 + 1 ≡ k
-    back q = omega arith
-
 -- the slot behind the last entry, counted from the head before a pop and after it
 slot_is : (h l m : ℕ) → 0 < l → (h + l) % m ≡ ((h + 1) % m + (l - 1)) % m
 slot_is h l m p = sym (mod-add-mod (h + 1) m (l - 1) ∙ ap (λ (k : ℕ). k % m) (sum p))

@@ -19,7 +19,7 @@ use Rattle.machine.specs.Step.{effect, core_after, step_written, counted, execut
 use Rattle.machine.specs.Battles.{Row, bytes, word, datum, cell}
 
 abbrev pub limited : ℕ → ℕ → ℕ → Rules
-limited size read write = record { size = size; read = read; write = write }
+limited size read write = record { size = size; read = read; write = write; processes = 1 }
 
 -- the number that fresh gives, of rules and memories
 abbrev told : Rules → ℕ → ℕ → ℕ
@@ -27,7 +27,7 @@ told rules cells slots = (fresh rules (replicate cells 0) (replicate slots 0)).n
 
 -- a fresh machine of these rules with a body at a place, and one entry there
 abbrev pub board_at : ℕ → Rules → List ℕ → Machine
-board_at place rules body = (load (fresh rules (replicate rules.size 0) (replicate 8 0)).machine [] body 65535 place).machine
+board_at place rules body = (load (fresh rules (replicate rules.size 0) (replicate 16 0)).machine [] body 65535 place).machine
 
 -- the same with a word at a place that is no cell
 abbrev broken : ℕ → Machine → Machine
@@ -55,20 +55,20 @@ limits =
     -- fresh: divisors are taken, each limit by itself; 0, one over M and others are 14, after 1 and 2
     ∷ record {
       got =
-          told (limited 8 1 8) 8 1
-          ∷ told (limited 8 2 4) 8 1
-          ∷ told (limited 8 0 8) 8 1
-          ∷ told (limited 8 8 0) 8 1
-          ∷ told (limited 8 3 8) 8 1
-          ∷ told (limited 8 8 16) 8 1
-          ∷ told (limited 8 3 3) 7 1
+          told (limited 8 1 8) 8 16
+          ∷ told (limited 8 2 4) 8 16
+          ∷ told (limited 8 0 8) 8 16
+          ∷ told (limited 8 8 0) 8 16
+          ∷ told (limited 8 3 8) 8 16
+          ∷ told (limited 8 8 16) 8 16
+          ∷ told (limited 8 3 3) 7 16
           ∷ told (limited 8 3 3) 8 0
-          ∷ told (limited 0 0 0) 0 1
+          ∷ told (limited 0 0 0) 0 16
           ∷ [];
       wanted = 0 ∷ 0 ∷ 14 ∷ 14 ∷ 14 ∷ 14 ∷ 2 ∷ 2 ∷ 1 ∷ [];
     }
     -- in a header such a limit is 9
-    ∷ record { got = (step (under (blank (limited 8 8 3)) (jump 0 (of_size 8) mode.Direct 1 []))).number ∷ []; wanted = 9 ∷ [] }
+    ∷ record { got = (step (under (blank (limited 8 8 3)) (jump 0 (of_size 8 1) mode.Direct 1 []))).number ∷ []; wanted = 9 ∷ [] }
     -- taken from PC: JMP $3 at 5, read limit 4
     ∷ record { got = goes_to (jump 5 (limited 20 4 20) mode.Direct 3 []); wanted = 0 ∷ 0 ∷ 4 ∷ [] }
     -- JMP $2, read limit 4

@@ -1,0 +1,109 @@
+-- Machines with a process limit (02, A.4), one row for each place that could be read otherwise: what the definitions give, and what is wanted. The theorem is in proofs/Battles.antt.
+-- Inner. Assumes nothing.
+use Rattle.std.specs.Prelude.{ℕ, zero, suc, ◌+◌, ◌≡◌, List, [], ◌∷◌, ◌++◌, map, take, replicate}
+use Rattle.cell.specs.Cells.{sound_word}
+use Rattle.types.specs.Opcode.{SPL}
+use Rattle.types.specs.Modifier as modifier
+use Rattle.types.specs.Mode as mode
+use Rattle.program.specs.Program.{lawful, lowest_fault, cells}
+use Rattle.machine.specs.State.{of_size, Machine, under, Outcome}
+use Rattle.machine.specs.Names.{register, numbered}
+use Rattle.machine.specs.Queue.{unpacked_entry, entries, pop, push, started}
+use Rattle.machine.specs.Soundness.{sound_header, sound_entry}
+use Rattle.machine.specs.Fresh.{fresh}
+use Rattle.machine.specs.Load.{loaded, load}
+use Rattle.machine.specs.Pointers.{operand}
+use Rattle.machine.specs.Execution.{effect_of}
+use Rattle.machine.specs.Step.{effect, core_after, step_written, counted, executed, step}
+use Rattle.machine.specs.Battles.{Row, bytes, datum}
+
+-- the number that fresh gives, of P and a queue memory
+abbrev made : ℕ → ℕ → ℕ
+made processes slots = (fresh (of_size 1 processes) (0 ∷ []) (replicate slots 0)).number
+
+-- M 8 and 32 entries of queue memory, for a P of 2 at most
+abbrev eight : ℕ → Machine
+eight processes = (fresh (of_size 8 processes) (replicate 8 0) (replicate 32 0)).machine
+
+-- names A and B, and by a number
+abbrev A : List ℕ
+A = 65 ∷ []
+
+abbrev B : List ℕ
+B = 66 ∷ []
+
+abbrev call : ℕ → List ℕ
+call n = (65 + n) ∷ []
+
+-- a load of SPL $2 or of DAT, at a place
+abbrev split : List ℕ → ℕ → Machine → Outcome
+split name place m = load m name (bytes SPL modifier.B mode.Direct 2 mode.Direct 0) 65535 place
+
+abbrev dat : List ℕ → Machine → Outcome
+dat name m = load m name (datum 0 0) 65535 7
+
+-- so many names are loaded, one entry each
+abbrev crowded : ℕ → Machine → Machine
+crowded zero m = m
+crowded (suc n) m = (dat (call n) (crowded n m)).machine
+
+-- what a step leaves: its number and pushes; name index, place and thread of each entry; the counts and next thread numbers of two names
+abbrev told : List ℕ → List ℕ
+told [] = []
+told (w ∷ ws) = let e = unpacked_entry w in e.name ∷ e.place.0 ∷ e.thread ∷ told ws
+
+abbrev leaves : Outcome → List ℕ
+leaves o = let h = o.machine.header in o.number ∷ o.pushes ∷ (told (entries o.machine) ++ (take 2 h.counts ++ take 2 h.threads))
+
+unfoldable pub processes : List Row
+unfolding sound_word lawful lowest_fault cells register numbered entries pop push started sound_header sound_entry fresh loaded load operand effect_of effect core_after step_written counted executed step
+processes =
+    -- fresh: P is 1 to 4,095, with 16 times as many entries or more, of 65,535 at most
+    record {
+      got = made 0 16 ∷ made 1 15 ∷ made 1 16 ∷ made 2 31 ∷ made 2 32 ∷ made 2 33 ∷ [];
+      wanted = 2 ∷ 2 ∷ 0 ∷ 2 ∷ 0 ∷ 0 ∷ [];
+    }
+    -- SPL $2 with P 1: (1, thread 0) alone, next thread 1
+    ∷ record { got = leaves (step (split A 0 (eight 1)).machine); wanted = 0 ∷ 1 ∷ 0 ∷ 1 ∷ 0 ∷ 1 ∷ 0 ∷ 1 ∷ 0 ∷ [] }
+    -- with P 2 and one entry the child is queued
+    ∷ record {
+      got = leaves (step (split A 0 (eight 2)).machine);
+      wanted = 0 ∷ 2 ∷ 0 ∷ 1 ∷ 0 ∷ 0 ∷ 2 ∷ 1 ∷ 2 ∷ 0 ∷ 2 ∷ 0 ∷ [];
+    }
+    -- with two it is dropped, and no number used
+    ∷ record {
+      got = leaves (step (dat A (split A 0 (eight 2)).machine).machine);
+      wanted = 0 ∷ 1 ∷ 0 ∷ 7 ∷ 1 ∷ 0 ∷ 1 ∷ 0 ∷ 2 ∷ 0 ∷ 2 ∷ 0 ∷ [];
+    }
+    -- two entries of the other name drop none of this one
+    ∷ record {
+      got = leaves (step (dat B (dat B (split A 0 (eight 2)).machine).machine).machine);
+      wanted = 0 ∷ 2 ∷ 1 ∷ 7 ∷ 0 ∷ 1 ∷ 7 ∷ 1 ∷ 0 ∷ 1 ∷ 0 ∷ 0 ∷ 2 ∷ 1 ∷ 2 ∷ 2 ∷ 2 ∷ 2 ∷ [];
+    }
+    -- load: 6 when the name holds P, 0 of another name; with 16 names of one entry each, P 1: 6 of a held name and of a seventeenth
+    ∷ record {
+      got =
+          (dat A (split A 0 (eight 1)).machine).number
+          ∷ (dat B (split A 0 (eight 1)).machine).number
+          ∷ (dat (call 15) (crowded 15 (eight 1))).number
+          ∷ (dat (call 3) (crowded 16 (eight 1))).number
+          ∷ (dat (call 3) (crowded 16 (eight 2))).number
+          ∷ (dat (call 16) (crowded 16 (eight 2))).number
+          ∷ [];
+      wanted = 6 ∷ 0 ∷ 0 ∷ 6 ∷ 0 ∷ 6 ∷ [];
+    }
+    -- a count over P is 9
+    ∷ record {
+      got =
+          let m = (dat A (split A 0 (eight 2)).machine).machine in
+          let h = m.header in
+          (step (under (record { rules = of_size 8 1; ring = h.ring; steps = h.steps; names = h.names; counts = h.counts; threads = h.threads }) m)).number
+          ∷ (step (under (record { rules = of_size 8 3; ring = h.ring; steps = h.steps; names = h.names; counts = h.counts; threads = h.threads }) m)).number
+          ∷ [];
+      wanted = 9 ∷ 9 ∷ [];
+    }
+    ∷ []
+
+-- every row gives what is wanted
+abbrev pub ProcessesHold : Type 0
+ProcessesHold = map (λ (r : Row). r.got) processes ≡ map (λ (r : Row). r.wanted) processes
