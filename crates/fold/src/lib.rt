@@ -1,4 +1,4 @@
-// Read and write limits (02, A.2): rules with both M, which ones fresh takes, and pointers folded by them.
+// Rules (02, A.2 and A.4): those with both limits M, which limits fresh takes, and pointers folded by the read and the write limit.
 #![tactic(auto)]
 
 ghost use Rattle.std.specs.Prelude.{◌≡◌, cond, ◌&&◌, ◌+◌, eqb};
@@ -7,16 +7,18 @@ ghost use Rattle.machine.specs.Pointers as spec;
 ghost use Rattle.machine.specs.Soundness as sound;
 
 use machine::Rules;
+use machine::limits::MOST_PROCESSES;
 use offset::{Relative, remainder};
 
-// The rules of a core of that size, with both limits the size.
-pub fn of_size(size: u32) -> Rules
-    ensures { result ≡ of_size size }
+// The rules of a core of that size and a process limit, with both other limits the size.
+pub fn of_size(size: u32, processes: u32) -> Rules
+    ensures { result ≡ of_size size processes }
 {
     Rules {
         size,
         read: size,
         write: size,
+        processes,
     }
 }
 
@@ -35,6 +37,13 @@ pub fn valid_limits(rules: Rules) -> bool
     ensures { result ≡ sound.valid_limits rules }
 {
     divides(rules.read, rules.size) && divides(rules.write, rules.size)
+}
+
+// Whether a process limit is one that fresh takes beside a queue memory of so many entries.
+pub fn valid_processes(processes: u32, slots: usize) -> bool
+    ensures { result ≡ sound.valid_processes processes slots }
+{
+    (1 <= processes) & (processes <= MOST_PROCESSES) & (16 * processes as usize <= slots)
 }
 
 // Whether both limits are the core's size.

@@ -7,7 +7,7 @@ use Rattle.machine.specs.declared.Roster.{Roster}
 use Rattle.machine.specs.declared.Rules.{Rules}
 use Rattle.machine.specs.State.{of_size, Machine}
 use Rattle.machine.specs.Names.{register}
-use Rattle.machine.specs.Queue.{full, started}
+use Rattle.machine.specs.Queue.{started}
 
 -- a machine of these memories and header
 abbrev pub machine_of : List ℕ → List ℕ → Header → Machine
@@ -35,23 +35,28 @@ unnamed core queue rules held p = parts core queue rules (names_of held [] []) p
 
 -- names alone, with the processes
 abbrev pub named_of : Roster → Processes → Header
-named_of names p = header_of (of_size 0) names p
+named_of names p = header_of (of_size 0 0) names p
 
 -- a queue alone: its memory and the processes
 abbrev pub queue_of : List ℕ → Processes → Machine
-queue_of queue p = unnamed [] queue (of_size 0) 0 p
+queue_of queue p = unnamed [] queue (of_size 0 0) 0 p
 
 -- the head lies in a queue memory of at most 65,535 entries
 abbrev pub headed : Machine → Bool
 headed m = leb (length m.queue) 65535 && ltb m.header.ring.head (length m.queue)
 
--- there is room for an entry of the name at i, and its count can rise
-abbrev pub has_room : Machine → ℕ → Bool
-has_room m i = headed m && not (full m i) && ltb i 16 && not (eqb (get_or m.header.counts i 0) 4294967295)
+-- one more than a number that rises is one, too
+abbrev pub can_rise : ℕ → Bool
+can_rise n = not (eqb n 4294967295)
 
--- a process started, where there is room and a thread number left
+-- the head lies in its memory, and the length, the count and the next thread number of the name at i can rise
+abbrev pub can_start : Machine → ℕ → Bool
+can_start m i =
+    headed m && ltb i 16 && (can_rise m.header.ring.length && can_rise (get_or m.header.counts i 0) && can_rise (get_or m.header.threads i 0))
+
+-- a process started, where one can be
 unfoldable pub start_if : ℕ → ℕ → Machine → Machine
-start_if place i m = cond (has_room m i && not (eqb (get_or m.header.threads i 0) 4294967295)) (started place i m) m
+start_if place i m = cond (can_start m i) (started place i m) m
 
 -- a name registered, where there is a slot for it
 unfoldable pub register_if : Header → List ℕ → Header

@@ -1,4 +1,4 @@
-// Whether a warrior would be loaded into a record whose header was tested, and if not, why (01, 'Load'): nothing is changed.
+// Whether a warrior would be loaded into a record whose header was tested, and if not, why (01, 'Load'; 02, A.4): nothing is changed.
 #![tactic(auto)]
 
 ghost use Rattle.std.specs.Prelude.{◌≡◌, []};
@@ -12,7 +12,6 @@ use machine::{Processes, Roster, Rules};
 use metadata::{Warrior, called, valid_name};
 use names::find;
 use program::{len, lowest_fault};
-use queue::full;
 
 // The answer of the first check of M and a warrior that applies, the same for load and for writing.
 #[tactic(auto, unfolding(crate::specs::Refusal::warrior_told))]
@@ -31,25 +30,22 @@ pub fn warrior_refusal(size: u32, w: Warrior<'_>) -> Answer
     Ok(())
 }
 
-// The answer of the first check of load that applies past the test of the header; an empty name is Warrior0.
+// The answer of the first check of load that applies past the test of the header; an empty name is Warrior0. No memory is looked at: the process limit counts a name's entries.
 pub fn refusal(
-    queue: &[u64],
     rules: Rules,
     names: &Roster,
     processes: &Processes,
     w: Warrior,
 ) -> Answer
-    ensures { told result ≡ tested_told (parts [] queue.now rules names.now processes.now) w.entry.name.now w.entry.body.now w.entry.place }
+    ensures { told result ≡ tested_told (parts [] [] rules names.now processes.now) w.entry.name.now w.entry.body.now w.entry.place }
 {
     if names.held > MOST_NAMES {
         return Err(Error::UnsoundRecord);
     }
     warrior_refusal(rules.size, w)?;
-    if full(queue, processes) {
-        return Err(Error::NoRoom);
-    }
     match find(names, called(w.name)) {
         None if names.held == MOST_NAMES => Err(Error::NoRoom),
+        Some(i) if processes.counts[i as usize] >= rules.processes => Err(Error::NoRoom),
         Some(i) if processes.threads[i as usize] == LAST_NUMBER => Err(Error::NumbersExhausted),
         _ => Ok(()),
     }

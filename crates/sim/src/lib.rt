@@ -12,7 +12,7 @@ ghost use Rattle.lent.specs.Given.{given, given_by};
 
 use answer::{Answer, Error};
 use cell::{Cell, fresh_cell, sound, unpack};
-use fold::{of_size, valid_limits};
+use fold::{of_size, valid_limits, valid_processes};
 use lent::processes_of;
 use machine::limits::{LARGEST_CORE, MOST_ENTRIES};
 use machine::{Header, Outcome, Ring, Roster, Rules};
@@ -51,9 +51,9 @@ pub fn refuse(answer: Answer, h: Header) -> Outcome
 
 // A refusal of a fresh machine: a header of zeros.
 fn no_machine(error: Error) -> Outcome
-    ensures { (result.answer ≡ Err error) × (result.writes ≡ 0) × (result.steps ≡ 0) × (result.header ≡ spec.blank (of_size 0)) }
+    ensures { (result.answer ≡ Err error) × (result.writes ≡ 0) × (result.steps ≡ 0) × (result.header ≡ spec.blank (of_size 0 0)) }
 {
-    refuse(Err(error), blank(of_size(0)))
+    refuse(Err(error), blank(of_size(0, 0)))
 }
 
 // A fresh machine: fresh cells, zeros in the queue memory, and its header. It tests what `soundness` tests of a header, but each for its own number.
@@ -67,7 +67,8 @@ pub fn fresh(rules: Rules, core: &mut [u64], queue: &mut [u64]) -> Outcome
     }
     let slots = queue.len();
     let limited = (1 <= slots) & (slots <= MOST_ENTRIES);
-    if (core.len() != size as usize) | !limited {
+    let processes = valid_processes(rules.processes, slots);
+    if (core.len() != size as usize) | !limited | !processes {
         return no_machine(Error::InvalidMemory);
     }
     if !valid_limits(rules) {

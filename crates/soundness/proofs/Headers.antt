@@ -16,17 +16,18 @@ use Rattle.machine.specs.declared.Rules.{Rules}
 use Rattle.machine.specs.State.{Machine, passes}
 use Rattle.machine.specs.declared.Roster.{Roster}
 use Rattle.machine.specs.Names.{name_at}
-use Rattle.machine.specs.Soundness.{valid_limits, fresh_checks, sound_header}
+use Rattle.machine.specs.Soundness.{valid_processes, valid_limits, fresh_checks, sound_header}
 use Rattle.machine.proofs.Soundness.{taken-tests}
 use Rattle.lent.specs.Parts.{valid_length}
 use Rattle.soundness.specs.Bounds.{bounded}
 
--- the test of what fresh takes and of the head, number by number, told whether the limits are valid
-pub in-bounds-tests : (core queue : List ℕ) (rules : Rules) (head : ℕ) {limits : Bool} → limits ≡ valid_limits rules
-    → (leb 1 rules.size && leb rules.size 46341 && eqb rules.size (length core) && leb 1 (length queue) && leb (length queue) 65535 && limits && ltb head (length queue))
+-- the test of what fresh takes and of the head, number by number, told whether P and the limits are valid
+pub in-bounds-tests : (core queue : List ℕ) (rules : Rules) (head : ℕ) {processes limits : Bool} → processes ≡ valid_processes rules.processes (length queue)
+    → limits ≡ valid_limits rules
+    → (leb 1 rules.size && leb rules.size 46341 && eqb rules.size (length core) && leb 1 (length queue) && leb (length queue) 65535 && processes && limits && ltb head (length queue))
     ≡ bounded core queue rules head
-in-bounds-tests core queue rules head e =
-    rw e (sym (ap (λ (b : Bool). b && ltb head (length queue)) (taken-tests rules core queue) ∙ simp and_assoc))
+in-bounds-tests core queue rules head ep e =
+    rw (ep, e) (sym (ap (λ (b : Bool). b && ltb head (length queue)) (taken-tests rules core queue) ∙ simp and_assoc))
 
 -- the tests of numbers, which come first, told whether the header is in bounds
 abbrev pub numbers_by : Bool → Machine → Bool
@@ -49,13 +50,17 @@ valid_names r n = every valid_length (take n r.lengths) && every (every valid_by
 abbrev pub unlike_names : Roster → ℕ → Bool
 unlike_names r n = distinct (table (name_at r) 0 n)
 
+-- the tests of the counts of the names held
+abbrev pub sound_counts : Machine → List ℕ → Bool
+sound_counts m counts = eqb (total counts) m.header.ring.length && every (λ c. leb c m.header.rules.processes) counts
+
 -- the header's tests, numbers first
 module _ (m : Machine) where
   abbrev held : ℕ
   held = m.header.names.held
 
   header_is : sound_header m
-      ≡ (numbers m && (valid_names m.header.names held && (unlike_names m.header.names held && eqb (total (take held m.header.counts)) m.header.ring.length)))
+      ≡ (numbers m && (valid_names m.header.names held && (unlike_names m.header.names held && sound_counts m (take held m.header.counts))))
   unfolding sound_header
   header_is =
       let h = m.header in
@@ -80,9 +85,10 @@ module _ (m : Machine) where
       pub not-distinct : unlike_names m.header.names (min held 16) ≡ false → false ≡ sound_header m
       not-distinct e = sym (header_is ∙ simp (n, of_held (valid_names m.header.names) v, of_held (unlike_names m.header.names) e))
 
-      pub by_total : {t h : ℕ} → unlike_names m.header.names (min held 16) ≡ true → h ≡ min held 16 → t ≡ total (take h m.header.counts) → eqb t m.header.ring.length ≡ sound_header m
-      by_total {t} e k s =
-          sym (header_is ∙ simp (n, of_held (valid_names m.header.names) v, of_held (unlike_names m.header.names) e) (ap (λ (k : ℕ). eqb k m.header.ring.length) total_is))
+      pub by_counts : {b : Bool} {h : ℕ} → unlike_names m.header.names (min held 16) ≡ true → h ≡ min held 16
+          → b ≡ sound_counts m (take h m.header.counts) → b ≡ sound_header m
+      by_counts {b} e k s =
+          sym (header_is ∙ simp (n, of_held (valid_names m.header.names) v, of_held (unlike_names m.header.names) e) counts_are)
         where
-          total_is : total (take held m.header.counts) ≡ t
-          total_is = sym (s ∙ rw (k, few))
+          counts_are : sound_counts m (take held m.header.counts) ≡ b
+          counts_are = sym (s ∙ rw (k, few))

@@ -1,4 +1,4 @@
--- M, the limits and the memories' lengths are such as fresh takes, and the head lies in the queue memory: so no read leaves a memory.
+-- M, the limits, P and the memories' lengths are such as fresh takes, and the head lies in the queue memory: so no read leaves a memory.
 -- Believed. Assumes nothing.
 use Rattle.std.specs.Prelude.{ℕ, Bool, ◌&&◌, List, ltb, length}
 use Rattle.machine.specs.declared.Rules.{Rules}

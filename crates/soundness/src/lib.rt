@@ -1,7 +1,7 @@
-// The tests of a lent record: its header, and the front entry (01, 'What a call gives back'; 02, A.2).
+// The tests of a lent record: its header, and the front entry (01, 'What a call gives back'; 02, A.2 and A.4).
 #![tactic(auto)]
 
-ghost use Rattle.std.specs.Prelude.{◌≡◌, [], ◌+◌, ◌-◌, ◌≤◌, ◌<◌, ◌&&◌, eqb, min, length, get_or, take, drop};
+ghost use Rattle.std.specs.Prelude.{◌≡◌, [], ◌+◌, ◌-◌, ◌≤◌, ◌<◌, ◌&&◌, eqb, leb, min, length, get_or, take, drop};
 ghost use Rattle.laws.specs.Lists.{every, tally, table, total, same, distinct};
 ghost use Rattle.metadata.specs.Metadata.{valid_byte};
 ghost use Rattle.machine.specs.Names.{name_at, names};
@@ -12,7 +12,7 @@ ghost use Rattle.soundness.specs.Inner.Keys.{key_of, Keyed, times_in};
 
 use encoding::{byte, number32};
 use entry::unpack;
-use fold::valid_limits;
+use fold::{valid_limits, valid_processes};
 use machine::limits::{LARGEST_CORE, MOST_ENTRIES, MOST_NAMES};
 use machine::{Processes, Ring, Roster, Rules};
 use names::{equal, name_at};
@@ -112,29 +112,33 @@ fn names_distinct(names: &Roster) -> bool
     (0..held).all(|i| is_unlike(names, &keys, i, held))
 }
 
-// The sum of the counts of at most 16 names. By `map` and `sum` the header of an imp takes 6 instructions more, of 151.
-fn total_of(counts: &[u32]) -> u64
+// Whether the counts of at most 16 names sum to so many entries, none of them over P.
+fn counts_sound(counts: &[u32], entries: u32, limit: u32) -> bool
     requires { length counts.now ≤ 16 }
-    ensures { result ≡ total counts.now }
+    ensures { result ≡ (eqb (total counts.now) entries && every (λ c. leb c limit) counts.now) }
 {
     let mut sum: u64 = 0;
+    let mut within = true;
     for count in counts {
         sum += *count as u64;
+        within &= *count <= limit;
     }
-    sum
+    (sum == entries as u64) & within
 }
 
-// Whether M, the limits and the memories' lengths are such as fresh takes, and the head lies in the queue memory: row by row, so `queue::headed`, which has two of the rows, is not asked.
+// Whether M, the limits, P and the memories' lengths are such as fresh takes, and the head lies in the queue memory: row by row, so `queue::headed`, which has two of the rows, is not asked.
 pub fn in_bounds(core: &[u64], queue: &[u64], rules: Rules, ring: Ring) -> bool
     ensures { result ≡ bounded core.now queue.now rules ring.head }
 {
     let slots = queue.len();
+    let processes = valid_processes(rules.processes, slots);
     let limits = valid_limits(rules);
     (1 <= rules.size)
         & (rules.size <= LARGEST_CORE)
         & (rules.size as usize == core.len())
         & (1 <= slots)
         & (slots <= MOST_ENTRIES)
+        & processes
         & limits
         & ((ring.head as usize) < slots)
 }
@@ -162,7 +166,11 @@ pub fn sound_header(
     if !names_distinct(names) {
         return false;
     }
-    total_of(&processes.counts[..held(names)]) == ring.length as u64
+    counts_sound(
+        &processes.counts[..held(names)],
+        ring.length,
+        rules.processes,
+    )
 }
 
 // Whether a front entry is sound.

@@ -7,7 +7,7 @@ use mathlib.Core.Bool.{Bool, true, false, cond, ◌&&◌}
 use mathlib.Core.List.{List, [], ◌∷◌, ◌++◌}
 use native.Mathlib.Omega.{arith}
 use lib.Dec.{eqb, leb}
-use lib.ListN.{length, take, replicate}
+use lib.ListN.{length, get_or, take, replicate}
 use Rattle.laws.specs.Lists.{every, distinct}
 use Rattle.laws.proofs.Numbers.{below}
 use Rattle.laws.proofs.Every.{◌and◌}
@@ -82,7 +82,7 @@ letters-valid =
 module _ (m : Machine) where
   pub unnamed-ready : (bytes lengths : List ℕ) → Ready (naming bytes lengths m) → Ready m
   unnamed-ready bytes lengths r =
-      record { taken = r.taken; limit = r.limit; head = r.head; few = r.few; sum = r.sum; counts = r.counts; threads = r.threads }
+      record { taken = r.taken; limit = r.limit; head = r.head; few = r.few; sum = r.sum; within = r.within; counts = r.counts; threads = r.threads }
 
   -- ready: sound with these names
   pub lettered : Ready m → Sound (naming letters ones m)
@@ -95,6 +95,7 @@ module _ (m : Machine) where
           size = t.size;
           core = t.cells;
           queue = t.slots;
+          processes = t.processes;
           limits = t.limits;
           limit = r.limit;
           head = r.head;
@@ -103,6 +104,7 @@ module _ (m : Machine) where
           bytes = v.1;
           unlike = v.2;
           sum = r.sum;
+          within = r.within;
         });
         names = refl;
         lengths = refl;
@@ -118,11 +120,12 @@ module _ (m : Machine) where
   sound-ready s =
       let t = tested m s.header in
       record {
-        taken = takes m.header.rules m.core m.queue (record { size = t.size; cells = t.core; slots = t.queue; limits = t.limits });
+        taken = takes m.header.rules m.core m.queue (record { size = t.size; cells = t.core; slots = t.queue; processes = t.processes; limits = t.limits });
         limit = t.limit;
         head = t.head;
         few = t.few;
         sum = t.sum;
+        within = t.within;
         counts = s.counts;
         threads = s.threads;
       }
@@ -137,13 +140,16 @@ module _ (m : Machine) where
 abbrev pub within : List ℕ → Rules → Roster → Machine → Machine
 within core rules names m = parts core m.queue rules names (processes_of m.header)
 
--- pushes look at the queue only
-pub queued-within : (core : List ℕ) (rules : Rules) (names : Roster) (x : Next) (e : Entry) (m : Machine)
+-- pushes look at the queue and P only
+pub queued-within : (core : List ℕ) (rules : Rules) (names : Roster) (x : Next) (e : Entry) (m : Machine) → rules.processes ≡ m.header.rules.processes
     → queued x e (within core rules names m) ≡ record { machine = within core rules names (queued x e m).machine; pushes = (queued x e m).pushes }
 unfolding push started numbered
-queued-within core rules names (ends x) e m = refl
-queued-within core rules names (goes p) e m = refl
-queued-within core rules names (splits p c) e m = either (full (push (entry p e.thread e.name) m) e.name)
+queued-within core rules names (ends x) e m l = refl
+queued-within core rules names (goes p) e m l = refl
+queued-within core rules names (splits p c) e m l =
+    ap (λ (k : ℕ). cond {A = Queued} (leb k (get_or (push (entry p e.thread e.name) m).header.counts e.name 0)) (record { machine = push (entry p e.thread e.name) (within core rules names m); pushes = 1 })
+    (record { machine = started c e.name (push (entry p e.thread e.name) (within core rules names m)); pushes = 2 })) l
+    ∙ either (full (push (entry p e.thread e.name) m) e.name)
   where
     either : (b : Bool) → cond {A = Queued} b (record { machine = push (entry p e.thread e.name) (within core rules names m); pushes = 1 })
         (record { machine = started c e.name (push (entry p e.thread e.name) (within core rules names m)); pushes = 2 })
@@ -163,8 +169,8 @@ module _ (bytes lengths : List ℕ) where
 
   executed-named : (m : Machine) → executed (naming bytes lengths m) ≡ named (executed m)
   unfolding executed effect core_after step_written counted pop
-  executed-named m = ap put (queued-within (core_after m) m.header.rules (names_of m.header.names.held bytes lengths) (effect m).next (popped m) (counted (core_after m) (pop m)))
-      ∙ sym (ap (λ (q : Queued). named (put q)) (queued-within (core_after m) m.header.rules m.header.names (effect m).next (popped m) (counted (core_after m) (pop m))))
+  executed-named m = ap put (queued-within (core_after m) m.header.rules (names_of m.header.names.held bytes lengths) (effect m).next (popped m) (counted (core_after m) (pop m)) refl)
+      ∙ sym (ap (λ (q : Queued). named (put q)) (queued-within (core_after m) m.header.rules m.header.names (effect m).next (popped m) (counted (core_after m) (pop m)) refl))
     where
       put : Queued → Outcome
       put q = record { machine = q.machine; number = (executed m).number; value = (executed m).value; writes = (executed m).writes; steps = 1; pushes = q.pushes }

@@ -8,13 +8,14 @@ use native.Mathlib.Nat.{mod-add-mod}
 use native.Mathlib.Omega.{arith}
 use lib.Dec.{eqb}
 use lib.ListN.{length, get_or, set, length-set}
-use lib.Seq.{get_or-set_same, set-set, set-get_or}
-use borrow.Author.Tests.{leb-false}
+use lib.Seq.{get_or-set_same}
 use Rattle.std.specs.Prelude.{Result, Ok}
 use Rattle.answer.specs.declared.Error.{Error}
 use Rattle.answer.specs.Numbers.{told, gives}
 use Rattle.offset.specs.declared.Absolute.{Absolute}
+use Rattle.laws.proofs.Lists.{lower-raise}
 use Rattle.offset.specs.Offset.{ahead}
+use Rattle.offset.proofs.Offsets.{ahead-lt}
 use Rattle.machine.specs.declared.Entry.{Entry}
 use Rattle.machine.specs.declared.Processes.{Processes}
 use Rattle.machine.specs.State.{Machine}
@@ -22,11 +23,10 @@ use Rattle.machine.specs.Names.{numbered}
 use Rattle.machine.specs.Queue.{packed_entry, unpacked_entry, entry, full, pop, push, started}
 use Rattle.machine.specs.Execution.{Ending, Next, ends}
 use Rattle.machine.specs.Step.{popped, pc, Queued, queued, end_told, next_told}
-use Rattle.lent.specs.Parts.{queue_of}
 use Rattle.steps.specs.declared.opcode.Executed.{Executed}
 use Rattle.steps.specs.declared.opcode.Executed.TheVariants.{Goes, Splits}
 use Rattle.steps.specs.declared.ring.Stepped.{Stepped}
-use Rattle.steps.specs.Inner.Queueing.{ring_of, tail_of, Front, next_of, writes_of, ended, Requeued}
+use Rattle.steps.specs.Inner.Queueing.{ring_of, line_of, tail_of, Front, next_of, writes_of, ended, Requeued}
 
 abbrev Answer : Type 0
 Answer = Result (Unit {0}) Error
@@ -52,10 +52,10 @@ one_on h l m = mod-add-mod (h + l) m 1 ∙ ap (λ (k : ℕ). k % m) (sum h l) �
     sum : (h l : ℕ) → h + l + 1 ≡ h + 1 + l
     sum h l = omega arith
 
--- a process started, or dropped where there is no room
-module _ (queue : List ℕ) (p : Processes) (place name : ℕ) where
+-- a process started, or dropped where its name holds P
+module _ (limit : ℕ) (queue : List ℕ) (p : Processes) (place name : ℕ) where
   abbrev lent : Machine
-  lent = queue_of queue p
+  lent = line_of limit queue p
 
   abbrev pub grown : Machine
   grown = cond (full lent name) lent (started place name lent)
@@ -63,17 +63,14 @@ module _ (queue : List ℕ) (p : Processes) (place name : ℕ) where
   pub keeps : full lent name ≡ true → lent ≡ grown
   keeps h = sym (ap (λ (b : Bool). cond b lent (started place name lent)) h)
 
-  pub room : full lent name ≡ false → p.ring.length < length queue
-  room h = leb-false _ _ h
-
   pub starts : {tail v : ℕ} {q : List ℕ} → full lent name ≡ false → tail ≡ tail_of lent → v ≡ packed_entry (entry place (get_or p.threads name 0) name) → q ≡ set queue tail v
-      → queue_of q
+      → line_of limit q
       (record { ring = ring_of p.ring.head (p.ring.length + 1); steps = p.steps; counts = set p.counts name (get_or p.counts name 0 + 1); threads = set p.threads name (get_or p.threads name 0 + 1) })
       ≡ grown
   unfolding started push numbered
   starts h t e f =
-      ap (λ (q : List ℕ). queue_of q (record { ring = ring_of p.ring.head (p.ring.length + 1); steps = p.steps; counts = set p.counts name (get_or p.counts name 0 + 1); threads = set p.threads name (get_or p.threads name 0 + 1) })) f
-      ∙ (λ i. queue_of (set queue (t i) (e i))
+      ap (λ (q : List ℕ). line_of limit q (record { ring = ring_of p.ring.head (p.ring.length + 1); steps = p.steps; counts = set p.counts name (get_or p.counts name 0 + 1); threads = set p.threads name (get_or p.threads name 0 + 1) })) f
+      ∙ (λ i. line_of limit (set queue (t i) (e i))
       (record { ring = ring_of p.ring.head (p.ring.length + 1); steps = p.steps; counts = set p.counts name (get_or p.counts name 0 + 1); threads = set p.threads name (get_or p.threads name 0 + 1) }))
       ∙ sym (ap (λ (b : Bool). cond b lent (started place name lent)) h)
 
@@ -86,9 +83,9 @@ module _ (queue : List ℕ) (p : Processes) (place name : ℕ) where
       sum h l = omega arith
 
 -- a queue with its front entry
-module _ {queue : List ℕ} {p : Processes} {tail : ℕ} (f : Front (queue_of queue p) tail) where
+module _ {limit : ℕ} {queue : List ℕ} {p : Processes} {tail : ℕ} (f : Front (line_of limit queue p) tail) where
   abbrev line : Machine
-  line = queue_of queue p
+  line = line_of limit queue p
 
   abbrev name : ℕ
   name = (popped line).name
@@ -104,10 +101,10 @@ module _ {queue : List ℕ} {p : Processes} {tail : ℕ} (f : Front (queue_of qu
   abbrev moved : ℕ → List ℕ
   moved next = set queue tail (packed_entry (entry next (popped line).thread name))
 
-  pushed-is : (next : ℕ) → queue_of (moved next) (onward next-head p) ≡ push (entry next (popped line).thread name) (pop line)
+  pushed-is : (next : ℕ) → line_of limit (moved next) (onward next-head p) ≡ push (entry next (popped line).thread name) (pop line)
   unfolding push pop
   pushed-is next = λ i.
-      queue_of (set queue ((f.behind ∙ slot_is p.ring.head p.ring.length (length queue) f.some) i) (packed_entry (entry next (popped line).thread name)))
+      line_of limit (set queue ((f.behind ∙ slot_is p.ring.head p.ring.length (length queue) f.some) i) (packed_entry (entry next (popped line).thread name)))
       (record { ring = ring_of next-head (longer i); steps = p.steps; counts = lower-raise p.counts name (omega (arith, name-lt, f.sixteen)) f.count i; threads = p.threads })
     where
       longer : p.ring.length ≡ p.ring.length - 1 + 1
@@ -116,8 +113,8 @@ module _ {queue : List ℕ} {p : Processes} {tail : ℕ} (f : Front (queue_of qu
   pub moved-is : (next : ℕ) {v w : ℕ} → w ≡ get_or queue p.ring.head 0 → v ≡ packed_entry (entry next (unpacked_entry w).thread (unpacked_entry w).name) → set queue tail v ≡ moved next
   moved-is next e f = ap (set queue tail) (f ∙ ap (λ (w : ℕ). packed_entry (entry next (unpacked_entry w).thread (unpacked_entry w).name)) e)
 
-  pushed : (next : ℕ) {h : ℕ} {q : List ℕ} → h ≡ next-head → q ≡ moved next → queue_of q (onward h p) ≡ push (entry next (popped line).thread name) (pop line)
-  pushed next eh eq = (λ i. queue_of (eq i) (onward (eh i) p)) ∙ pushed-is next
+  pushed : (next : ℕ) {h : ℕ} {q : List ℕ} → h ≡ next-head → q ≡ moved next → line_of limit q (onward h p) ≡ push (entry next (popped line).thread name) (pop line)
+  pushed next eh eq = (λ i. line_of limit (eq i) (onward (eh i) p)) ∙ pushed-is next
 
   -- the tail after one push
   pub tail-on : (v : ℕ) {h t : ℕ} {q : List ℕ} → h ≡ next-head → t ≡ ahead (length queue) tail 1 → q ≡ set queue tail v → t ≡ ahead (length q) h p.ring.length
@@ -127,20 +124,23 @@ module _ {queue : List ℕ} {p : Processes} {tail : ℕ} (f : Front (queue_of qu
 
   -- what a child started then asks
   pub child-asks : (v : ℕ) {h t : ℕ} {q : List ℕ} {e : Entry} → h ≡ next-head → (t ≡ ahead (length queue) tail 1) × (q ≡ set queue tail v) → e ≡ popped line
-      → (length q ≤ 65535) × (t ≡ tail_of (queue_of q (onward h p))) × (e.name < 16) × (get_or p.threads e.name 0 ≡ 4294967295 → ⊥) × (get_or p.counts e.name 0 < 4294967295)
+      → (length q ≤ 65535) × (t < length q) × (t ≡ tail_of (line_of limit q (onward h p))) × (e.name < 16) × (p.ring.length ≤ length q) × (get_or p.threads e.name 0 ≡ 4294967295 → ⊥) × (get_or p.counts e.name 0 < 4294967295)
   child-asks v eh g ee =
       let few = f.slots in
-      let counted = f.counted in (
+      let counted = f.counted in
+      let l = f.limit in (
         rw (g.1, length-set queue tail v) few,
+        rw (g.0, g.1, length-set queue tail v) (ahead-lt (length queue) tail 1 (omega (arith, f.head))),
         tail-on v eh g.0 g.1,
         rw ee name-lt,
+        rw (g.1, length-set queue tail v) l,
         rw ee f.number,
         rw ee (omega arith),
       )
 
   module _ {x : Executed} where
     pub goes_on : {next : Absolute} {wr h t : ℕ} {q : List ℕ} → x ≡ Goes next wr → h ≡ next-head → t ≡ ahead (length queue) tail 1
-        → q ≡ moved next.0 → Requeued line x (stepped (Ok tt) wr t) (queue_of q (onward h p))
+        → q ≡ moved next.0 → Requeued line x (stepped (Ok tt) wr t) (line_of limit q (onward h p))
     goes_on {next = next} {h = h} e eh et eq =
         record {
           machine = pushed next.0 eh eq ∙ ap (λ (y : Executed). (queued (next_of y) (popped line) (pop line)).machine) (sym e);
@@ -150,7 +150,7 @@ module _ {queue : List ℕ} {p : Processes} {tail : ℕ} (f : Front (queue_of qu
         }
 
     pub splits-on : {next child : Absolute} {wr h t n : ℕ} {q : List ℕ} {m : Machine} → x ≡ Splits next child wr → h ≡ next-head → n ≡ name
-        → q ≡ moved next.0 → (m ≡ grown q (onward h p) child.0 n) × (t ≡ tail_of m) → Requeued line x (stepped (Ok tt) wr t) m
+        → q ≡ moved next.0 → (m ≡ grown limit q (onward h p) child.0 n) × (t ≡ tail_of m) → Requeued line x (stepped (Ok tt) wr t) m
     splits-on {next = next} {child = child} {h = h} {n = n} ex eh en eq g =
         record {
           machine = g.0 ∙ (λ j. cond (full (pushed next.0 eh eq j) (en j)) (pushed next.0 eh eq j) (started child.0 (en j) (pushed next.0 eh eq j)))
@@ -169,11 +169,11 @@ module _ {queue : List ℕ} {p : Processes} {tail : ℕ} (f : Front (queue_of qu
     -- an ended process pushes nothing
     pub ended-on : (y : Ending) {wr h : ℕ} {e : Entry} {answer : Answer} {q : Processes} → next_of x ≡ ends y → writes_of x ≡ wr → h ≡ next-head → e ≡ popped line
         → (told answer ≡ cond (eqb (get_or p.counts e.name 0 - 1) 0) (end_told y e.place.0) (gives 0 0)) × (q ≡ ended e.name (onward h p))
-        → Requeued line x (stepped answer wr tail) (queue_of queue q)
+        → Requeued line x (stepped answer wr tail) (line_of limit queue q)
     unfolding pop
     ended-on y {h = h} {e = e} ex ew eh ee g =
         record {
-          machine = ap (queue_of queue) g.1 ∙ (λ j. queue_of queue (ended (ee j).name (onward (eh j) p))) ∙ ap (λ (n : Next). (queued n (popped line) (pop line)).machine) (sym ex);
+          machine = ap (line_of limit queue) g.1 ∙ (λ j. line_of limit queue (ended (ee j).name (onward (eh j) p))) ∙ ap (λ (n : Next). (queued n (popped line) (pop line)).machine) (sym ex);
           answer = g.0 ∙ ap (λ (e : Entry). cond (eqb (get_or p.counts e.name 0 - 1) 0) (end_told y e.place.0) (gives 0 0)) ee
               ∙ ap (λ (k : ℕ). cond (eqb k 0) (end_told y (pc line)) (gives 0 0)) (sym left)
               ∙ ap (λ (n : Next). next_told n (get_or (pop line).header.counts name 0) (pc line)) (sym ex);

@@ -5,15 +5,13 @@ ghost use Rattle.answer.specs.Numbers.{told, told_error, gives};
 ghost use Rattle.offset.specs.Offset.{ahead};
 ghost use Rattle.machine.specs.Queue as spec;
 ghost use Rattle.machine.specs.Queue.{packed_entry, unpacked_entry, entry, started};
-ghost use Rattle.lent.specs.Parts.{queue_of};
-ghost use Rattle.steps.specs.Inner.Queueing.{Front, Near, Requeued, tail_of, ended};
+ghost use Rattle.steps.specs.Inner.Queueing.{Front, Near, Requeued, line_of, tail_of, ended};
 
 use crate::opcode::Executed;
 use answer::{Answer, Error};
 use entry::{pack, unpack};
 use machine::{Entry, Processes};
 use offset::Absolute;
-use queue::full;
 
 // What a step answers, with its writes, and the tail afterwards. Both stand beside a refusal too, so the answer is a field: a Result has no place for them.
 #[derive(Clone, Copy)]
@@ -44,23 +42,25 @@ fn push(queue: &mut [u64], tail: u32, w: u64) -> u32
     slot_after(tail, queue.len() as u32)
 }
 
-// SPL's child is started, where there is room: the tail afterwards. By `queue::start`, which tests for room in the memory and finds the tail anew, a step of a battle with SPL takes 4 % more instructions.
+// SPL's child is started, where its name does not hold P: the tail afterwards. By `queue::start`, which tests what a header may hold and finds the tail anew, a step of a battle with SPL takes 4 % more instructions.
 fn start_child(
     queue: &mut [u64],
     processes: &mut Processes,
+    limit: u32,
     tail: u32,
     place: Absolute,
     name: u8,
 ) -> u32
-    requires { (lists.length queue.old ≤ 65535) × (tail ≡ tail_of (queue_of queue.old processes.old)) × (name < 16)
+    requires { (lists.length queue.old ≤ 65535) × (tail < lists.length queue.old) × (tail ≡ tail_of (line_of limit queue.old processes.old)) × (name < 16)
+        × (processes.old.ring.length ≤ lists.length queue.old)
         × (get_or processes.old.threads name 0 ≡ 4294967295 → ⊥) × (get_or processes.old.counts name 0 < 4294967295) }
-    ensures { (queue_of queue.new processes.new ≡ cond (spec.full (queue_of queue.old processes.old) name) (queue_of queue.old processes.old) (started place.0 name (queue_of queue.old processes.old)))
-        × (result ≡ tail_of (queue_of queue.new processes.new)) }
+    ensures { (line_of limit queue.new processes.new ≡ cond (spec.full (line_of limit queue.old processes.old) name) (line_of limit queue.old processes.old) (started place.0 name (line_of limit queue.old processes.old)))
+        × (result ≡ tail_of (line_of limit queue.new processes.new)) }
 {
-    if full(queue, processes) {
+    let who = name as usize;
+    if processes.counts[who] >= limit {
         return tail;
     }
-    let who = name as usize;
     let thread = processes.threads[who];
     let after = push(
         queue,
@@ -100,16 +100,17 @@ fn moved(w: u64, place: Absolute) -> u64
     w - (w & 0xffff) + place.0 as u64
 }
 
-// The front entry is popped, and pushed again as it was executed.
+// The front entry is popped, and pushed again as it was executed, under a process limit.
 pub(crate) fn requeue(
     queue: &mut [u64],
     processes: &mut Processes,
+    limit: u32,
     tail: u32,
     w: u64,
     executed: Executed,
 ) -> Stepped
-    requires { Front (queue_of queue.old processes.old) tail × (w ≡ get_or queue.old processes.old.ring.head 0) × Near executed }
-    ensures { Requeued (queue_of queue.old processes.old) executed result (queue_of queue.new processes.new) }
+    requires { Front (line_of limit queue.old processes.old) tail × (w ≡ get_or queue.old processes.old.ring.head 0) × Near executed }
+    ensures { Requeued (line_of limit queue.old processes.old) executed result (line_of limit queue.new processes.new) }
 {
     processes.ring.head = slot_after(processes.ring.head, queue.len() as u32);
     match executed {
@@ -123,7 +124,7 @@ pub(crate) fn requeue(
             Stepped {
                 answer: Ok(()),
                 writes,
-                tail: start_child(queue, processes, after, child, unpack(w).name),
+                tail: start_child(queue, processes, limit, after, child, unpack(w).name),
             }
         }
         Executed::Dat(writes) => {

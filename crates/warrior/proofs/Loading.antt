@@ -1,12 +1,11 @@
 -- What load gives past the test of the header: its refusals in their order, and a warrior that passes the checks.
 -- Assumes nothing.
 use mathlib.Core.Path.{◌≡◌, refl, sym, ap, ap₂, subst, ◌∙◌}
-use mathlib.Core.Bool.{Bool, true, false, cond, not, ◌&&◌}
+use mathlib.Core.Bool.{Bool, true, false, cond}
 use mathlib.Core.List.{List, []}
 use Prim.Native.Nat.{ℕ, ◌≤◌, ◌<◌}
 use native.Mathlib.Omega.{arith}
-use lib.Dec.{eqb}
-use lib.ListN.{length, get_or}
+use lib.ListN.{length}
 use borrow.Author.Tests.{leb-false, ltb-false, eqb-true, le-leb, lt-ltb, not-false}
 use Rattle.answer.specs.Numbers.{Told, gives}
 use Rattle.laws.proofs.Tests.{neither}
@@ -23,7 +22,7 @@ use Rattle.machine.specs.Names.{slot, is_new, register, registered, numbered}
 use Rattle.machine.specs.Queue.{push, started}
 use Rattle.machine.specs.Load.{origin_of}
 use Rattle.machine.proofs.Checks.{passed, without, others}
-use Rattle.lent.specs.Parts.{processes_of, header_of, parts, named_of, queue_of, has_room, start_if, register_if}
+use Rattle.lent.specs.Parts.{processes_of, header_of, parts, named_of, queue_of, can_start, start_if, register_if}
 use Rattle.lent.specs.Given.{Given, given, given_by}
 use Rattle.load_checks.specs.Refusal.{tested_checks, tested_told}
 use Rattle.load_checks.proofs.Index.{not-six, eight}
@@ -37,7 +36,7 @@ module _ (core : List ℕ) (rules : Rules) (names : Roster) where
 
   starts_within : (at i : ℕ) (queue : List ℕ) (p : Processes) → within (start_if at i (queue_of queue p)) ≡ start_if at i (parts core queue rules names p)
   unfolding start_if started push numbered
-  starts_within at i queue p = go (has_room (queue_of queue p) i && not (eqb (get_or p.threads i 0) 4294967295))
+  starts_within at i queue p = go (can_start (queue_of queue p) i)
     where
       go : (b : Bool) → within (cond b (started at i (queue_of queue p)) (queue_of queue p))
           ≡ cond b (started at i (parts core queue rules names p)) (parts core queue rules names p)
@@ -86,9 +85,9 @@ module _ (core queue : List ℕ) (rules : Rules) (names : Roster) (p : Processes
       ∙ ap (λ (n : ℕ). given (gives 0 0) n 0 (start_if (ahead rules.size place (origin_of origin)) (slot names name)
       (with_core (placed_if core place (cells rules.size body)) (under (registered (header_of rules names p) name) (parts core queue rules names p))))) en
 
--- what the checks answered, which look at no core
+-- what the checks answered, which look at no memory
 module _ (core queue : List ℕ) (rules : Rules) (names : Roster) (p : Processes) (name body : List ℕ) (place : ℕ) {t : Told}
-    (et : t ≡ tested_told (parts [] queue rules names p) name body place) where
+    (et : t ≡ tested_told (parts [] [] rules names p) name body place) where
   abbrev whole : Machine
   whole = parts core queue rules names p
 
@@ -131,7 +130,6 @@ module _ (m : Machine) (name body : List ℕ) (place : ℕ) (e : first (tested_c
         fits = ltb-false _ _ p.1.0;
         short = (called-valid name (not-false _ five.0)).0;
         below = leb-false _ _ five.1;
-        room = p.1.1.1.1.1.0;
         index = refl;
         free = not-six m.header (called name) refl few p.1.1.1.1.0;
         number = sym (eight m.header (called name) refl) ∙ p.1.1.1.1.1.1.0;

@@ -24,7 +24,7 @@ bad = 19 ∷ 4 ∷ 1 ∷ 1 ∷ replicate 8 0
 
 -- a fresh machine of 2 cells
 abbrev pub two : ℕ → Machine
-two limit = (fresh (of_size 2) (0 ∷ 0 ∷ []) (replicate limit 0)).machine
+two processes = (fresh (of_size 2 processes) (0 ∷ 0 ∷ []) (replicate 32 0)).machine
 
 -- n names of one byte each, loaded one after the other
 abbrev pub crowd : ℕ → Machine → Machine
@@ -33,24 +33,24 @@ crowd (suc n) m = crowd n (load m ((65 + n) ∷ []) dat 65535 0).machine
 
 -- one name with the greatest next thread number, and no entry
 abbrev pub worn : Machine
-worn = machine_of (two 1).core (0 ∷ []) (header_of (of_size 2) (names_of 1 (65 ∷ replicate 511 0) (1 ∷ replicate 15 0))
+worn = machine_of (two 1).core (replicate 16 0) (header_of (of_size 2 1) (names_of 1 (65 ∷ replicate 511 0) (1 ∷ replicate 15 0))
     (record { ring = record { head = 0; length = 0 }; steps = 0; counts = replicate 16 0; threads = 4294967295 ∷ replicate 15 0 }))
 
 unfoldable pub outcomes : List Outcome
 unfolding sound_word lawful lowest_fault cells register numbered push started sound_header fresh loaded load
 outcomes =
-    fresh (of_size 2) (0 ∷ 0 ∷ []) (0 ∷ [])
-    ∷ fresh (of_size 0) [] (0 ∷ [])
-    ∷ fresh (of_size 2) (0 ∷ []) (0 ∷ [])
-    ∷ fresh (record { size = 2; read = 2; write = 0 }) (0 ∷ 0 ∷ []) (0 ∷ [])
+    fresh (of_size 2 1) (0 ∷ 0 ∷ []) (replicate 16 0)
+    ∷ fresh (of_size 0 1) [] (replicate 16 0)
+    ∷ fresh (of_size 2 1) (0 ∷ []) (replicate 16 0)
+    ∷ fresh (record { size = 2; read = 2; write = 0; processes = 1 }) (0 ∷ 0 ∷ []) (replicate 16 0)
     ∷ load (two 1) [] dat 65535 0
-    ∷ load (machine_of (0 ∷ []) (0 ∷ []) (blank (of_size 2))) [] dat 65535 0
+    ∷ load (machine_of (0 ∷ []) (replicate 16 0) (blank (of_size 2 1))) [] dat 65535 0
     ∷ load (two 1) [] (dat ++ (dat ++ dat)) 65535 0
     ∷ load (two 1) [] (dat ++ bad) 65535 0
     ∷ load (two 1) (32 ∷ []) dat 65535 0
     ∷ load (two 1) [] dat 65535 2
     ∷ load (load (two 1) [] dat 65535 0).machine [] dat 65535 0
-    ∷ load (crowd 16 (two 17)) (97 ∷ []) dat 65535 0
+    ∷ load (crowd 16 (two 2)) (97 ∷ []) dat 65535 0
     ∷ load worn (65 ∷ []) dat 65535 0
     ∷ []
 

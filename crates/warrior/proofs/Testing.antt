@@ -7,7 +7,7 @@ use Prim.Native.Nat.{ℕ, ◌≤◌, ◌<◌}
 use native.Mathlib.Omega.{arith}
 use lib.Dec.{eqb, leb}
 use lib.ListN.{length, get_or, take, set}
-use borrow.Author.Tests.{leb-true, leb-false, eqb-true, eqb-false, le-leb, lt-ltb, le-ltb, eq-eqb, ne_eqb}
+use borrow.Author.Tests.{leb-true, eqb-true, eqb-false, le-leb, lt-ltb, le-ltb, eq-eqb}
 use Rattle.answer.specs.Numbers.{gives}
 use Rattle.laws.specs.Lists.{total}
 use Rattle.laws.proofs.Tests.{both}
@@ -25,7 +25,7 @@ use Rattle.machine.specs.Load.{placed, origin_of, place_checks, start_checks, lo
 use Rattle.machine.proofs.Soundness.{tested}
 use Rattle.lent.specs.Parts.{start_if}
 use Rattle.lent.specs.Given.{given, given_by}
-use Rattle.queue.proofs.Rings.{inside, room}
+use Rattle.queue.proofs.Rings.{inside, can}
 use Rattle.load_checks.specs.Refusal.{tested_checks}
 use Rattle.names.proofs.Naming.{slot-le}
 use Rattle.load_checks.proofs.Index.{new_is}
@@ -79,8 +79,8 @@ module _ (m : Machine) (name body : List ℕ) (place i : ℕ) (a : Accepted m na
       let n = with_core core (under (registered m.header name) m) in
       let v : length m.queue ≤ 65535 = leb-true (length m.queue) 65535 (both (leb 1 (length m.queue)) (leb (length m.queue) 65535) t.queue).1 in
       let h : m.header.ring.head < length m.queue = t.head in
-      simp
-      (room n i (inside n v (rw ring-stays h)) (rw ring-stays (leb-false _ _ a.room)) a.free risen.0, ne_eqb (get_or (registered m.header name).threads i 0) 4294967295 risen.1)
+      let l : m.header.ring.length ≤ length m.queue = t.limit in
+      simp (can n i (inside n v (rw ring-stays h)) a.free (rw ring-stays (λ f. omega arith)) risen.0 risen.1)
 
   -- and the body is placed
   body-placed : placed_if m.core place (cells m.header.rules.size body) ≡ placed m.core place (cells m.header.rules.size body)

@@ -1,4 +1,4 @@
--- Load past the test of the header, for any record (01, 'Load'). Where the header is sound it is load (`tested-load`, proofs/Testing.antt).
+-- Load past the test of the header, for any record (01, 'Load'; 02, A.4). Where the header is sound it is load (`tested-load`, proofs/Testing.antt).
 -- Believed. Assumes nothing.
 use Rattle.std.specs.Prelude.{ℕ, cond, ◌&&◌, List, leb, ltb, length}
 use Rattle.offset.specs.Offset.{ahead}
@@ -14,7 +14,7 @@ use Rattle.load_checks.specs.Refusal.{tested_checks}
 unfoldable pub placed_if : List ℕ → ℕ → List ℕ → List ℕ
 placed_if core place ws = cond (ltb place (length core) && leb (length ws) (length core)) (placed core place ws) core
 
--- `loaded`, with the body placed where the core has the cells, and the process started where the queue has room
+-- `loaded`, with the body placed where the core has the cells, and the process started where it can be
 unfoldable pub loaded_if : Machine → List ℕ → List ℕ → ℕ → ℕ → Outcome
 loaded_if m name body origin place =
     let h = m.header in

@@ -62,7 +62,7 @@ pub fn load_parts(
     ensures { given (told result) (writes_of result) 0 (parts core.new queue.new rules names.new processes.new)
         ≡ given_by (load_tested (parts core.old queue.old rules names.old processes.old) w.entry.name.now w.entry.body.now w.entry.origin w.entry.place) }
 {
-    refusal(queue, rules, names, processes, w)?;
+    refusal(rules, names, processes, w)?;
     let name = called(w.name);
     let i = slot_of(names, processes, name);
     place_body(core, w.place as usize, w.body, rules.size);

@@ -2,7 +2,7 @@
 use mathlib.Core.Path.{◌≡◌, sym, ap, ◌∙◌}
 use mathlib.Core.Bool.{Bool, true}
 use Rattle.lent.specs.Parts.{parts}
-use Rattle.soundness.proofs.Headers.{numbers_by, numbers, no-numbers, no_names, not-distinct, by_total}
+use Rattle.soundness.proofs.Headers.{numbers_by, numbers, no-numbers, no_names, not-distinct, by_counts}
 use Rattle.soundness.proofs.sound_header.Goals as goal
 
 pub returns-then-not-numbers : goal.returns-then-not-numbers
@@ -30,4 +30,4 @@ returns c =
     let a = c.args in
     let m = parts a.core.now a.queue.now a.rules a.names.now a.processes.now in
     let n : numbers m ≡ true = sym (ap (λ (b : Bool). numbers_by b m) c.in_bounds.ensures) ∙ c.if-not-numbers.false in
-    by_total m n (sym c.names_valid.ensures ∙ c.if-not-names_valid.false) (sym c.names_distinct.ensures ∙ c.if-not-names_distinct.false) c.held.ensures c.total_of.ensures
+    by_counts m n (sym c.names_valid.ensures ∙ c.if-not-names_valid.false) (sym c.names_distinct.ensures ∙ c.if-not-names_distinct.false) c.held.ensures c.counts_sound.ensures

@@ -1,20 +1,25 @@
 -- A queue with its front entry and its tail, the slot that the next entry goes to, and what an executed instruction does to it.
 -- Inner. Assumes nothing.
-use Rattle.std.specs.Prelude.{ℕ, ◌-◌, ◌/◌, ◌^◌, ◌<◌, ◌≤◌, ◌≡◌, length, get_or, set}
+use Rattle.std.specs.Prelude.{ℕ, ◌-◌, ◌/◌, ◌^◌, ◌<◌, ◌≤◌, ◌≡◌, List, [], length, get_or, set}
 use Rattle.answer.specs.Numbers.{told}
 use Rattle.offset.specs.Offset.{ahead}
 use Rattle.machine.specs.declared.Processes.{Processes}
 use Rattle.machine.specs.declared.Ring.{Ring}
-use Rattle.machine.specs.State.{Machine}
+use Rattle.machine.specs.State.{of_size, Machine}
 use Rattle.machine.specs.Queue.{pop}
 use Rattle.machine.specs.Execution.{dat, divisor, Next, ends, goes, splits}
 use Rattle.machine.specs.Step.{popped, pc, queued, next_told}
+use Rattle.lent.specs.Parts.{unnamed}
 use Rattle.steps.specs.declared.opcode.Executed.{Executed}
 use Rattle.steps.specs.declared.opcode.Executed.TheVariants.{Goes, Splits, Dat, DivideByZero}
 use Rattle.steps.specs.declared.ring.Stepped.{Stepped}
 
 abbrev pub ring_of : ℕ → ℕ → Ring
 ring_of head length = record { head = head; length = length }
+
+-- a queue alone with a process limit
+abbrev pub line_of : ℕ → List ℕ → Processes → Machine
+line_of processes queue p = unnamed [] queue (of_size 0 processes) 0 p
 
 -- the slot that the next entry goes to
 abbrev pub tail_of : Machine → ℕ

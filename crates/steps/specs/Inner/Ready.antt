@@ -1,8 +1,8 @@
 -- What the run loop asks of the parts that it is lent, which have no names, and what it promises of them.
 -- Inner. Assumes nothing.
-use Rattle.std.specs.Prelude.{ℕ, zero, suc, ◌+◌, ◌-◌, ◌≤◌, ◌<◌, ◌≡◌, true, ◌⊎◌, length, take, Result}
+use Rattle.std.specs.Prelude.{ℕ, zero, suc, ◌+◌, ◌-◌, ◌≤◌, ◌<◌, ◌≡◌, true, ◌⊎◌, leb, length, take, Result}
 use Rattle.answer.specs.declared.Error.{Error}
-use Rattle.laws.specs.Lists.{total}
+use Rattle.laws.specs.Lists.{every, total}
 use Rattle.machine.specs.State.{Machine, Outcome, done, and_then, refusal, first, passes, settle}
 use Rattle.machine.specs.Soundness.{fresh_checks}
 use Rattle.machine.specs.Step.{next_checks, executed}
@@ -16,6 +16,7 @@ pub record Ready (m : Machine) : Type 0 where
   pub head : m.header.ring.head < length m.queue
   pub few : m.header.names.held ≤ 16
   pub sum : total (take m.header.names.held m.header.counts) ≡ m.header.ring.length
+  pub within : every (λ c. leb c m.header.rules.processes) (take m.header.names.held m.header.counts) ≡ true
   pub counts : length m.header.counts ≡ 16
   pub threads : length m.header.threads ≡ 16
 

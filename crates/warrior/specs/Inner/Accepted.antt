@@ -4,7 +4,6 @@ use Rattle.std.specs.Prelude.{ℕ, ◌≤◌, ◌<◌, ◌≡◌, false, ◌&&�
 use Rattle.program.specs.Program.{instructions}
 use Rattle.machine.specs.State.{Machine}
 use Rattle.machine.specs.Names.{slot}
-use Rattle.machine.specs.Queue.{full}
 
 -- of a machine, a warrior and the index of its name, which is not empty
 pub record Accepted (m : Machine) (name body : List ℕ) (place i : ℕ) : Type 0 where
@@ -12,7 +11,6 @@ pub record Accepted (m : Machine) (name body : List ℕ) (place i : ℕ) : Type 
   pub fits : instructions body ≤ m.header.rules.size
   pub short : length name ≤ 32
   pub below : place < m.header.rules.size
-  pub room : full m i ≡ false
   pub index : i ≡ slot m.header.names name
   pub free : i < 16
   pub number : (ltb i m.header.names.held && eqb (get_or m.header.threads i 0) 4294967295) ≡ false
