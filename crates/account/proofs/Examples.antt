@@ -31,9 +31,9 @@ use Rattle.account.specs.Calls.{Call, Load, Step, Run, outcome, left, logged}
 use Rattle.account.specs.Lists.{Listed, One, LoadMatch, spread, logged_of}
 use Rattle.account.specs.Account.{ending_of}
 
--- M 8, 4 queue entries
+-- M 8, P 4
 abbrev start : Machine
-start = (fresh (of_size 8) (replicate 8 7) (replicate 4 9)).machine
+start = (fresh (of_size 8 4) (replicate 8 7) (replicate 64 9)).machine
 
 -- every unnamed warrior is called Warrior0
 abbrev Warrior0 : List ℕ

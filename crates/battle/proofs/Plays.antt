@@ -78,7 +78,7 @@ module _ (f : List ℕ) where
       size_is = ap (λ (x : Contents). x.size) (is_read (fault f) (contents_in f) read)
 
       abbrev by_size : Bool → Result
-      by_size b = cond b (refused (told_error InvalidCoreSize)) (after_fresh f (fresh (of_size (size_in f)) (replicate (size_in f) 0) (replicate 2000 0)))
+      by_size b = cond b (refused (told_error InvalidCoreSize)) (after_fresh f (fresh (of_size (size_in f) 125) (replicate (size_in f) 0) (replicate 2000 0)))
 
       reading-is : by_size (ltb 8000 c.size) ≡ result f
       reading-is = ap (λ (k : ℕ). by_size (ltb 8000 k)) size_is ∙ sym (ap (after_reading f) (no-fault (fault f) (contents_in f) read)) ∙ by-fault
@@ -86,10 +86,10 @@ module _ (f : List ℕ) where
       pub too-big : 8000 < c.size → refused (told_error InvalidCoreSize) ≡ result f
       too-big h = sym (ap by_size (lt-ltb 8000 c.size h)) ∙ reading-is
 
-      pub fits : c.size ≤ 8000 → (core queue : List ℕ) → length core ≡ c.size → length queue ≡ 2000 → after_fresh f (fresh (of_size c.size) core queue) ≡ result f
+      pub fits : c.size ≤ 8000 → (core queue : List ℕ) → length core ≡ c.size → length queue ≡ 2000 → after_fresh f (fresh (of_size c.size 125) core queue) ≡ result f
       fits h core queue a b =
-          ap (λ (k : ℕ). after_fresh f (fresh (of_size k) core queue)) size_is
-          ∙ fresh-same f (of_size (size_in f)) (replicate (size_in f) 0) (replicate 2000 0) core queue (a ∙ size_is ∙ sym (length-replicate {A = ℕ} (size_in f) 0))
+          ap (λ (k : ℕ). after_fresh f (fresh (of_size k 125) core queue)) size_is
+          ∙ fresh-same f (of_size (size_in f) 125) (replicate (size_in f) 0) (replicate 2000 0) core queue (a ∙ size_is ∙ sym (length-replicate {A = ℕ} (size_in f) 0))
           (b ∙ sym (length-replicate {A = ℕ} 2000 0))
           ∙ sym (ap by_size (le-ltb 8000 c.size h))
           ∙ reading-is

@@ -22,7 +22,7 @@ ran o = played o.number o.steps o.writes o.machine.header
 abbrev pub after_loads : Outcome → Result
 after_loads o = cond (eqb o.number 0) (ran (run None o.machine)) (refused (told_by o))
 
--- loads all, in file order, into M cells of core memory and 2,000 queue entries
+-- loads all, in file order, into M cells of core memory and 2,000 queue entries, with P 125 (02, A.4)
 abbrev pub after_fresh : List ℕ → Outcome → Result
 after_fresh f o = cond (eqb o.number 0) (after_loads (load_match o.machine f).outcome) (refused (told_by o))
 
@@ -30,7 +30,7 @@ after_fresh f o = cond (eqb o.number 0) (after_loads (load_match o.machine f).ou
 abbrev pub after_reading : List ℕ → Option ℕ → Result
 after_reading f (Some p) = refused (gives 13 p)
 after_reading f None =
-    cond (ltb 8000 (size_in f)) (refused (gives 1 0)) (after_fresh f (fresh (of_size (size_in f)) (replicate (size_in f) 0) (replicate 2000 0)))
+    cond (ltb 8000 (size_in f)) (refused (gives 1 0)) (after_fresh f (fresh (of_size (size_in f) 125) (replicate (size_in f) 0) (replicate 2000 0)))
 
 -- at most 32,768 bytes, else 13 at 32,768
 unfoldable pub result : List ℕ → Result

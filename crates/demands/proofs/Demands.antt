@@ -13,6 +13,7 @@ use Rattle.machine.specs.Step.{executes}
 use Rattle.machine.specs.Whole.{Unlimited}
 use Rattle.machine.proofs.Battles.{battles-prove}
 use Rattle.machine.proofs.Whole.{whole}
+use Rattle.machine.proofs.ProcessLimit.{process-limit}
 use Rattle.lent.specs.Given.{Given}
 use Rattle.account.specs.Calls.{Step, Event, left, reported}
 use Rattle.account.specs.Lists.{outcome_of, spread, logged_of}
@@ -110,6 +111,7 @@ facts =
     record {
       spread = spreads;
       whole = whole;
+      process_limit = process-limit;
       no_entry_left = no_entry_left;
       no_entry_left_says = no_entry_left_says;
       runs_on = runs_on;

@@ -15,6 +15,7 @@ use Rattle.machine.specs.Fresh.{fresh, lent}
 use Rattle.machine.specs.Load.{load_checks}
 use Rattle.machine.specs.Step.{step_checks, executes}
 use Rattle.machine.specs.Whole.{Unlimited, Whole}
+use Rattle.machine.specs.ProcessLimit.{ProcessLimit}
 use Rattle.lent.specs.Given.{Given}
 use Rattle.account.specs.Calls.{Load, Step, Run, left, reported}
 use Rattle.account.specs.Lists.{outcome_of, spread, logged_of, Spread}
@@ -104,12 +105,13 @@ Demand3 =
     → (made : List Reply) → Made made m
     → Account (last made m) (written made) (logged_of (calls made) (fresh rules own_core own_queue).machine [])
 
--- BESIDE THE DEMANDS. A match loaded in one call counts as the single loads that it made; with both limits M all is as before; what the mission tells
+-- BESIDE THE DEMANDS. A match loaded in one call counts as the single loads that it made; with both limits M all is as before; the process limit belongs to each warrior; what the mission tells
 -- apart, that a name has no entry left and that one entry of a name has ended; and that no call answers 9.
 -- The theorem is `facts` (proofs/Demands.antt)
 pub record Facts : Type 0 where
   pub spread : Spread
   pub whole : Whole
+  pub process_limit : ProcessLimit
   pub no_entry_left : NoEntryLeft
   pub no_entry_left_says : NoEntryLeftSays
   pub runs_on : RunsOn

@@ -1,15 +1,15 @@
 -- The theorem of specs/Agreement.antt: a step to which no departure applies makes the draft's change of the core and queues the draft's next places.
 -- Assumes nothing.
-use Prim.Native.Nat.{ℕ, ◌≤◌, ◌<◌}
+use Prim.Native.Nat.{ℕ, ◌-◌, ◌≤◌, ◌<◌}
 use mathlib.Core.Path.{◌≡◌, sym, ap, ap₂, subst, ◌∙◌}
 use mathlib.Core.Bool.{Bool, true, false, ◌&&◌, ◌||◌, false≢true}
 use mathlib.Core.List.{List, ◌++◌, map}
 use native.Mathlib.Nat.{mod-lt}
 use native.Mathlib.Omega.{arith}
 use lib.Dec.{eqb, leb}
-use borrow.Author.Tests.{leb-true, eqb-true, not-false}
-use lib.ListN.{length, get_or, take, drop}
-use lib.Seq.{take_all}
+use borrow.Author.Tests.{leb-true, leb-false, eqb-true, not-false}
+use lib.ListN.{length, get_or, take, drop, set, length-set}
+use lib.Seq.{take_all, get_or-set_same, get_or-take}
 use Rattle.laws.proofs.Tests.{both, neither}
 use Rattle.laws.proofs.Every.{every-weaker}
 use Rattle.cell.specs.declared.Cell.{Cell}
@@ -19,7 +19,7 @@ use Rattle.cell.proofs.Words.{word-range}
 use Rattle.cell.proofs.Soundness.{Sound, sound-fields}
 use Rattle.machine.specs.declared.Rules.{Rules}
 use Rattle.machine.specs.State.{Machine, accepted, first}
-use Rattle.machine.specs.Queue.{unpacked_entry, entries, front, pop}
+use Rattle.machine.specs.Queue.{unpacked_entry, entries, front, full, pop}
 use Rattle.machine.specs.Soundness.{divides, sound_header, sound_entry}
 use Rattle.machine.specs.Pointers.{fold}
 use Rattle.machine.specs.Execution.{Next, ends, goes, splits}
@@ -27,7 +27,8 @@ use Rattle.machine.specs.Instruction.{fetched}
 use Rattle.machine.specs.Step.{pc, popped, instruction, operand_a, operand_b, effect, core_after, counted, executed, step_checks, step, executes}
 use Rattle.machine.proofs.Checks.{passed}
 use Rattle.machine.proofs.Queue.{entries-pop}
-use Rattle.machine.proofs.Soundness.{divisor-at-most, tested, sound-entry}
+use Rattle.machine.proofs.ProcessLimit.{inside}
+use Rattle.machine.proofs.Soundness.{divisor-at-most, is-processes, count-within, room-for, tested, sound-entry}
 use Rattle.machine.proofs.Pointers.{fold-below}
 use Rattle.machine.proofs.Step.{not_last, step-by-cases, step-executed, nonzero, counting}
 use Rattle.draft.specs.Evaluation.{modes, immediate, evaluate}
@@ -50,6 +51,9 @@ record Facts (m : Machine) : Type 0 where
   head : m.header.ring.head < length m.queue
   limit : m.header.ring.length ≤ length m.queue
   some : 0 < m.header.ring.length
+  counted : 1 ≤ get_or m.header.counts (popped m).name 0
+  most : get_or m.header.counts (popped m).name 0 ≤ m.header.rules.processes
+  left : get_or m.header.counts (popped m).name 0 < m.header.rules.processes → m.header.ring.length < length m.queue
   there : pc m < m.header.rules.size
   sound : Sound m.header.rules.size (instruction m)
   opcode : (instruction m).opcode < 17
@@ -61,6 +65,7 @@ facts m e =
     let size = m.header.rules.size in
     let z = both (leb 1 size) (leb size 46341) h.size in
     let w = divisor-at-most m.header.rules.write size (leb-true _ _ z.0) (both (divides m.header.rules.read size) (divides m.header.rules.write size) h.limits).1 in
+    let e = sound-entry m.header (front m) (not-false (sound_entry m.header (front m)) p.1.1.0) in
     let s = sound-fields m.header.rules.size (get_or m.core (pc m) 0) (not-false (sound_word m.header.rules.size (get_or m.core (pc m) 0)) p.1.1.1.1.0) in
     record {
       pos = leb-true _ _ z.0;
@@ -70,7 +75,13 @@ facts m e =
       head = h.head;
       limit = h.limit;
       some = nonzero p.1.0;
-      there = (sound-entry m.header (front m) (not-false (sound_entry m.header (front m)) p.1.1.0)).place;
+      counted = e.count;
+      most = count-within m.header.rules.processes m.header.names.held m.header.counts h.within (popped m).name e.held;
+      left = λ c.
+          room-for m.header.rules.processes m.header.names.held m.header.counts h.within h.few h.sum
+          (is-processes m.header.rules.processes (length m.queue) h.processes) (popped m).name (omega (arith, h.few, e.held))
+          (rw (get_or-take m.header.names.held m.header.counts (popped m).name 0 e.held) c);
+      there = e.place;
       sound = s.1;
       opcode = not_last (instruction m).opcode s.1.opcode p.1.1.1.1.1.0;
     }
@@ -214,10 +225,23 @@ module _ (m : Machine) (f : Facts m) (none : None m) where
       (every-weaker (λ p. p < M) (λ p. p < 65536) (λ p h. omega (arith, f.fits)) done.next
       (next-below (get_or opcodes IR.opcode NOP) state f.pos jump-lt))
 
+  -- the count of the front entry's name, which a pop lowers
+  abbrev count : ℕ
+  count = get_or m.header.counts (popped m).name 0
+
+  name-in : (popped m).name < length m.header.counts
+  name-in = inside m.header.counts (popped m).name f.counted
+
+  lowered : get_or (set m.header.counts (popped m).name (count - 1)) (popped m).name 0 ≡ count - 1
+  lowered = get_or-set_same m.header.counts (popped m).name (count - 1) 0 name-in
+
   places-are : places (executed m).machine ≡ drop 1 (places m) ++ take (room m) (drafted m).next
   unfolding executed counted pop entries
   places-are =
-      places-queued (effect m).next (popped m) (counting m) (mod-lt _ (omega (arith, f.head))) (omega (arith, f.some, f.limit)) next_small
+      places-queued (effect m).next (popped m) (counting m) (mod-lt _ (omega (arith, f.head))) (omega (arith, f.some, f.limit))
+      (rw (length-set m.header.counts (popped m).name (count - 1)) name-in) (rw lowered (omega (arith, f.counted, f.most)))
+      (rw lowered (λ c. let l = f.left (omega (arith, f.counted)) in omega (arith, f.some))) next_small
+      ∙ ap (λ (k : ℕ). places (counting m) ++ take (m.header.rules.processes - k) (nexts (effect m).next)) lowered
       ∙ ap₂ (λ (ps ns : List ℕ). ps ++ take (room m) ns)
       (sym (ap (λ (es : List ℕ). drop 1 (map (λ w. (unpacked_entry w).place.0) es)) (entries-pop m f.some)))
       next-is
@@ -241,11 +265,12 @@ short (ends x) = omega arith
 short (goes p) = omega arith
 short (splits p c) = omega arith
 
--- where the queue was not full the limit drops nothing
-pub agreement-with-room : (m : Machine) → executes (step m).number ≡ true → departs m ≡ false → m.header.ring.length < length m.queue
+-- where the front entry's name did not hold P the limit drops nothing
+pub agreement-with-room : (m : Machine) → executes (step m).number ≡ true → departs m ≡ false → full m (popped m).name ≡ false
     → places (step m).machine ≡ drop 1 (places m) ++ (drafted m).next
 agreement-with-room m t d r =
+    let l = leb-false m.header.rules.processes (get_or m.header.counts (popped m).name 0) r in
     let f = facts m (step-executed m t).0 in
     (agreement m t d).1
     ∙ ap (λ (ps : List ℕ). drop 1 (places m) ++ ps)
-    (take_all (room m) (drafted m).next (omega (arith, f.some, short (effect m).next, ap length (next-is m f (none_of m d)))))
+    (take_all (room m) (drafted m).next (omega (arith, f.counted, short (effect m).next, ap length (next-is m f (none_of m d)))))

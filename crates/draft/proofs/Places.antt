@@ -6,10 +6,10 @@ use mathlib.Core.Bool.{Bool, true, false, cond, not}
 use mathlib.Core.List.{List, [], ◌∷◌, ◌++◌, map, append-nil, append_assoc, map-append}
 use native.Mathlib.Nat.{mod-lt}
 use native.Mathlib.Omega.{arith}
-use lib.Dec.{eqb, ltb}
+use lib.Dec.{eqb, leb, ltb}
 use borrow.Author.Tests.{leb-true, leb-false}
 use lib.ListN.{length, get_or, take, length-set}
-use lib.Seq.{take_all, take-nil}
+use lib.Seq.{take_all, take-nil, get_or-set_same}
 use Rattle.laws.proofs.Every.{Every}
 use Rattle.machine.specs.declared.Entry.{Entry}
 use Rattle.machine.specs.State.{Machine}
@@ -83,34 +83,53 @@ pushed : (e : Entry) (m : Machine) → Pushed m (push e m)
 unfolding push
 pushed e m = record { head = refl; limit = length-set m.queue _ _; length = refl }
 
--- what is queued of a next
+-- and the name's count
+full-pushed : (e : Entry) (m : Machine) → e.name < length m.header.counts
+    → full (push e m) e.name ≡ leb m.header.rules.processes (get_or m.header.counts e.name 0 + 1)
+unfolding push
+full-pushed e m i = ap (leb m.header.rules.processes) (get_or-set_same m.header.counts e.name (get_or m.header.counts e.name 0 + 1) 0 i)
+
+-- what is queued of a next, of a name that is counted and holds fewer than P; where one entry more leaves it below P, two more have their slots
 pub places-queued : (x : Next) (e : Entry) (m : Machine) → m.header.ring.head < length m.queue → m.header.ring.length < length m.queue
-    → Below 65536 (nexts x) → places (queued x e m).machine ≡ places m ++ take (length m.queue - m.header.ring.length) (nexts x)
-places-queued (ends y) e m h l b = sym (ap (λ (ps : List ℕ). places m ++ ps) (take-nil (length m.queue - m.header.ring.length)) ∙ append-nil (places m))
-places-queued (goes p) e m h l b =
+    → e.name < length m.header.counts → get_or m.header.counts e.name 0 < m.header.rules.processes
+    → (get_or m.header.counts e.name 0 + 1 < m.header.rules.processes → m.header.ring.length + 1 < length m.queue)
+    → Below 65536 (nexts x) → places (queued x e m).machine ≡ places m ++ take (m.header.rules.processes - get_or m.header.counts e.name 0) (nexts x)
+places-queued (ends y) e m h l i c d b =
+    sym (ap (λ (ps : List ℕ). places m ++ ps) (take-nil (m.header.rules.processes - get_or m.header.counts e.name 0)) ∙ append-nil (places m))
+places-queued (goes p) e m h l i c d b =
     places-push (entry p e.thread e.name) m h l b.0
-    ∙ ap (λ (ps : List ℕ). places m ++ ps) (sym (take_all (length m.queue - m.header.ring.length) (p ∷ []) (omega arith)))
-places-queued (splits p c) e m h l b = go (full n e.name) refl
+    ∙ ap (λ (ps : List ℕ). places m ++ ps) (sym (take_all (m.header.rules.processes - get_or m.header.counts e.name 0) (p ∷ []) (omega arith)))
+places-queued (splits p c) e m h l i low d b = go (full n e.name) refl
   where
     n : Machine
     n = push (entry p e.thread e.name) m
 
-    i : Pushed m n
-    i = pushed (entry p e.thread e.name) m
+    P : ℕ
+    P = m.header.rules.processes
+
+    count : ℕ
+    count = get_or m.header.counts e.name 0
+
+    at : Pushed m n
+    at = pushed (entry p e.thread e.name) m
+
+    raised : full n e.name ≡ leb P (count + 1)
+    raised = full-pushed (entry p e.thread e.name) m i
 
     one : places n ≡ places m ++ (p ∷ [])
     one = places-push (entry p e.thread e.name) m h l b.0
 
     go : (t : Bool) → full n e.name ≡ t
         → places (cond {A = Queued} t (record { machine = n; pushes = 1 }) (record { machine = started c e.name n; pushes = 2 })).machine
-        ≡ places m ++ take (length m.queue - m.header.ring.length) (p ∷ c ∷ [])
+        ≡ places m ++ take (P - count) (p ∷ c ∷ [])
     go true f =
-        let g : length n.queue ≤ n.header.ring.length = leb-true _ _ f in
-        let r : length m.queue - m.header.ring.length ≡ 1 = omega (arith, i.limit, i.length) in
+        let g : P ≤ count + 1 = leb-true _ _ (sym raised ∙ f) in
+        let r : P - count ≡ 1 = omega (arith, low) in
         one ∙ sym (ap (λ (k : ℕ). places m ++ take k (p ∷ c ∷ [])) r)
     go false f =
-        let g : n.header.ring.length < length n.queue = leb-false _ _ f in
-        places-started c e.name n (omega (arith, i.head, i.limit)) g b.1.0
+        let g : count + 1 < P = leb-false _ _ (sym raised ∙ f) in
+        let left : n.header.ring.length < length n.queue = rw (at.length, at.limit) (d g) in
+        places-started c e.name n (omega (arith, at.head, at.limit)) left b.1.0
         ∙ ap (λ (ps : List ℕ). ps ++ (c ∷ [])) one
         ∙ append_assoc (places m) (p ∷ []) (c ∷ [])
-        ∙ ap (λ (ps : List ℕ). places m ++ ps) (sym (take_all (length m.queue - m.header.ring.length) (p ∷ c ∷ []) (omega (arith, i.limit, i.length))))
+        ∙ ap (λ (ps : List ℕ). places m ++ ps) (sym (take_all (P - count) (p ∷ c ∷ []) (omega arith)))

@@ -4,15 +4,14 @@ use Prim.Native.Nat.{ℕ, zero, suc, ◌≤◌, ◌<◌}
 use mathlib.Core.Path.{◌≡◌, refl, sym, ap, ap₂, ◌∙◌}
 use mathlib.Core.Bool.{Bool, true, false, cond, ◌&&◌, false≢true}
 use mathlib.Core.List.{List, [], ◌∷◌}
-use native.Mathlib.Nat.{le_trans, min-le_left, not-suc-le-zero}
+use native.Mathlib.Nat.{not-suc-le-zero}
 use native.Mathlib.Omega.{arith}
 use lib.Dec.{eqb, leb}
-use lib.ListN.{length, get_or, take, length-take}
+use lib.ListN.{length, get_or}
 use borrow.Author.Tests.{eqb-false, not-false}
 use Rattle.laws.specs.Lists.{same}
 use Rattle.laws.proofs.Lists.{lower-raise}
 use Rattle.laws.proofs.Lowest.{lowest-le}
-use Rattle.laws.proofs.Tally.{total-below}
 use Rattle.machine.specs.declared.Rules.{Rules}
 use Rattle.machine.specs.State.{Machine, accepted, first}
 use Rattle.machine.specs.Names.{names, slot, is_new, seventeenth, count_of}
@@ -25,7 +24,7 @@ use Rattle.machine.specs.Step.{popped, effect, Queued, queued, counted, executed
 use Rattle.machine.specs.ProcessLimit.{drops, SameOwn, ProcessLimit}
 use Rattle.machine.proofs.Checks.{passed}
 use Rattle.machine.proofs.Names.{length-names}
-use Rattle.machine.proofs.Soundness.{tested, is-processes, sound-entry}
+use Rattle.machine.proofs.Soundness.{tested, is-processes, room-for, sound-entry}
 use Rattle.machine.proofs.Step.{step-by-cases, counting}
 
 -- a name that is held, or new among fewer than 16, has an index below 16
@@ -43,21 +42,17 @@ room-left : (m : Machine) (n : List ℕ) → sound_header m ≡ true → sevente
     → count_of m.header n < m.header.rules.processes → m.header.ring.length < length m.queue
 room-left m n e free less =
     let t = tested m e in
-    let p = is-processes m.header.rules.processes (length m.queue) t.processes in
-    let l = total-below m.header.rules.processes (take m.header.names.held m.header.counts) 16 (slot m.header.names n) t.within short (index-below m n t.few free) less in
-    omega (arith, t.sum, p.room)
-  where
-    short : length (take m.header.names.held m.header.counts) ≤ 16
-    short = let t = tested m e in rw (length-take m.header.names.held m.header.counts) (le_trans (min-le_left m.header.names.held (length m.header.counts)) t.few)
+    room-for m.header.rules.processes m.header.names.held m.header.counts t.within t.few t.sum
+    (is-processes m.header.rules.processes (length m.queue) t.processes) (slot m.header.names n) (index-below m n t.few free) less
 
 -- a count that is not 0 stands in the list
-inside : (l : List ℕ) (i : ℕ) → 1 ≤ get_or l i 0 → i < length l
+pub inside : (l : List ℕ) (i : ℕ) → 1 ≤ get_or l i 0 → i < length l
 inside [] i h = absurd (not-suc-le-zero h)
 inside (x ∷ xs) zero h = omega arith
 inside (x ∷ xs) (suc i) h = let r = inside xs i h in omega arith
 
 -- the popped entry's name holds as many once PC+1 is queued as before the step
-full-again : (m : Machine) (p : ℕ) → 1 ≤ get_or m.header.counts (popped m).name 0
+pub full-again : (m : Machine) (p : ℕ) → 1 ≤ get_or m.header.counts (popped m).name 0
     → full (push (entry p (popped m).thread (popped m).name) (counting m)) (popped m).name ≡ full m (popped m).name
 unfolding push counted pop
 full-again m p one =

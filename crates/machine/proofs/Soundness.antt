@@ -4,15 +4,15 @@ use Prim.Native.Nat.{ℕ, ◌+◌, ◌-◌, ◌*◌, ◌/◌, ◌%◌, ◌^◌, 
 use mathlib.Core.Path.{◌≡◌, refl, sym, ap, subst, ◌∙◌}
 use mathlib.Core.Bool.{Bool, true, false, cond, not, ◌&&◌, ◌||◌}
 use mathlib.Core.List.{List}
-use native.Mathlib.Nat.{mod-lt, mod-eq_of_lt}
+use native.Mathlib.Nat.{le_trans, min-le_left, mod-lt, mod-eq_of_lt}
 use native.Mathlib.Omega.{arith}
 use lib.Dec.{eqb, leb, ltb}
-use lib.ListN.{length, get_or, take, set, length-set}
+use lib.ListN.{length, get_or, take, set, length-take, length-set}
 use lib.Seq.{take-set-lt, length-take-le, get_or-take}
 use borrow.Author.Tests.{leb-true, leb-false, ltb-true, ltb-false, eqb-true, eqb-false, le-leb, lt-ltb, eq-eqb, not-false}
 use Rattle.laws.specs.Lists.{every, total, same, distinct}
 use Rattle.laws.proofs.Tests.{both, neither, holds, eqb_swap}
-use Rattle.laws.proofs.Every.{every-passes, every-at, every-set, every-snoc}
+use Rattle.laws.proofs.Every.{every-passes, every-at, every-or, every-set, every-snoc}
 use Rattle.laws.proofs.Tally.{total-set, total-snoc, total-most, total-below}
 use Rattle.laws.proofs.Same.{distinct_snoc}
 use Rattle.metadata.specs.Metadata.{valid_byte}
@@ -90,6 +90,24 @@ divisor-at-most limit size pos d =
     go : (b : Bool) → ltb size limit ≡ b → size % limit ≡ 0 → limit ≤ size
     go true e z = let s : size ≡ 0 = sym (mod-eq_of_lt (ltb-true _ _ e)) ∙ z in omega arith
     go false e z = ltb-false _ _ e
+
+-- the counts of at most 16 names held, none of them over P: each is at most P; they fit into the queue memory; and where one name, held or still
+-- to be held, holds fewer than P, there is room for one entry more
+module _ (p held : ℕ) (counts : List ℕ) (within : every (λ c. leb c p) (take held counts) ≡ true) where
+  pub count-within : (i : ℕ) → i < held → get_or counts i 0 ≤ p
+  count-within i h =
+      leb-true _ _ (subst (λ (k : ℕ). leb k p ≡ true) (get_or-take held counts i 0 h)
+      (every-or (λ c. leb c p ≡ true) (take held counts) i 0 (every-passes (λ c. leb c p) (take held counts) within) (le-leb 0 p zero-le)))
+
+  module _ {slots entries : ℕ} (few : held ≤ 16) (sum : total (take held counts) ≡ entries) (p-is : Processes p slots) where
+    short : length (take held counts) ≤ 16
+    short = rw (length-take held counts) (le_trans (min-le_left held (length counts)) few)
+
+    pub entries-fit : entries ≤ slots
+    entries-fit = let l = total-most p (take held counts) 16 within short in omega (arith, sum, p-is.room)
+
+    pub room-for : (i : ℕ) → i < 16 → get_or (take held counts) i 0 < p → entries < slots
+    room-for i h c = let l = total-below p (take held counts) 16 i within short h c in omega (arith, sum, p-is.room)
 
 -- each test of a sound header
 pub record Tested (m : Machine) : Type 0 where
@@ -197,32 +215,15 @@ module _ (m : Machine) (s : SoundHeader m) where
   pub p-is : Processes m.header.rules.processes (length m.queue)
   p-is = is-processes _ _ s.processes
 
-  -- the counts of the names held, 16 at most
-  few-counts : (counts : List ℕ) → length counts ≡ 16 → length (take m.header.names.held counts) ≤ 16
-  few-counts counts k = let l = length-take-le m.header.names.held counts (omega (arith, k, s.few)) in omega (arith, s.few)
-
-  -- none of them over P, they fit into the queue memory
-  sum-fits : (counts : List ℕ) {n : ℕ} → length counts ≡ 16 → every (λ c. leb c m.header.rules.processes) (take m.header.names.held counts) ≡ true
-      → total (take m.header.names.held counts) ≡ n → n ≤ length m.queue
-  sum-fits counts k w e =
-      let l = total-most m.header.rules.processes (take m.header.names.held counts) 16 w (few-counts counts k) in
-      omega (arith, e, p-is.room)
-
   -- a name that holds fewer than P leaves room
   pub room : (i : ℕ) → i < m.header.names.held → full m i ≡ false → m.header.ring.length < length m.queue
   room i h f =
-      let c : get_or (take m.header.names.held m.header.counts) i 0 < m.header.rules.processes
-      = rw (get_or-take m.header.names.held m.header.counts i 0 h) (leb-false m.header.rules.processes (get_or m.header.counts i 0) f) in
-      let l = total-below m.header.rules.processes (take m.header.names.held m.header.counts) 16 i s.within (few-counts m.header.counts s.shape.counts) (omega (arith, s.few)) c in
-      omega (arith, s.sum, p-is.room)
+      room-for m.header.rules.processes m.header.names.held m.header.counts s.within s.few s.sum p-is i (omega (arith, s.few))
+      (rw (get_or-take m.header.names.held m.header.counts i 0 h) (leb-false m.header.rules.processes (get_or m.header.counts i 0) f))
 
   -- the count of a held name is at most P
   pub count-most : (i : ℕ) → i < m.header.names.held → get_or m.header.counts i 0 ≤ m.header.rules.processes
-  count-most i h =
-      leb-true _ _ (subst (λ (k : ℕ). leb k m.header.rules.processes ≡ true) (get_or-take m.header.names.held m.header.counts i 0 h)
-      (every-at (λ c. leb c m.header.rules.processes ≡ true) (take m.header.names.held m.header.counts) i 0
-      (every-passes (λ c. leb c m.header.rules.processes) (take m.header.names.held m.header.counts) s.within)
-      (rw (length-take-le m.header.names.held m.header.counts counts-long) h)))
+  count-most i h = count-within m.header.rules.processes m.header.names.held m.header.counts s.within i h
 
   -- and so are all counts when that of a held name is set to one that is
   within-set : (i v : ℕ) → i < m.header.names.held → v ≤ m.header.rules.processes
@@ -260,7 +261,7 @@ module _ (m : Machine) (s : SoundHeader m) where
         queue = rw q s.queue;
         processes = rw q s.processes;
         limits = s.limits;
-        limit = rw q (sum-fits counts k w t);
+        limit = rw q (entries-fit m.header.rules.processes m.header.names.held counts w s.few t p-is);
         head = rw q h;
         few = s.few;
         lengths = s.lengths;

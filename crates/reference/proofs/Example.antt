@@ -28,9 +28,9 @@ use Rattle.account.specs.Lists.{One}
 use Rattle.reference.specs.Refinement.{Domain, Agrees}
 use Rattle.reference.proofs.Refinement.{refinement}
 
--- M 8, 4 queue entries
+-- M 8, P 4
 abbrev start : Machine
-start = (fresh (of_size 8) (replicate 8 7) (replicate 4 9)).machine
+start = (fresh (of_size 8 4) (replicate 8 7) (replicate 64 9)).machine
 
 -- SPL $2,$0, DAT $0,$0, DJN.B $-1,$4 unnamed; a warrior too long; a name of 33 bytes, answered 5; three steps, a run to the end, and a step on the empty queue;
 -- NOP $0,$0, LDP.B $0,$0, a run that is answered 10 after a step, and a step that is answered 10
@@ -65,9 +65,9 @@ in-domain = (
   (((refl, omega arith), refl), (refl, ((tt, refl), ((tt, refl), ((tt, refl), ((tt, refl), ((tt, refl), (((refl, omega arith), refl), (refl, (refl, tt)))))))))),
 )
 
-made : (fresh (of_size 8) (replicate 8 7) (replicate 4 9)).number ≡ 0
+made : (fresh (of_size 8 4) (replicate 8 7) (replicate 64 9)).number ≡ 0
 unfolding fresh
 made = refl
 
-agrees : Agrees calls start (refinement (of_size 8) (replicate 8 7) (replicate 4 9) (record { read = refl; write = refl }) made).0
-agrees = (refinement (of_size 8) (replicate 8 7) (replicate 4 9) (record { read = refl; write = refl }) made).2 (map One calls) in-domain
+agrees : Agrees calls start (refinement (of_size 8 4) (replicate 8 7) (replicate 64 9) (record { read = refl; write = refl }) made).0
+agrees = (refinement (of_size 8 4) (replicate 8 7) (replicate 64 9) (record { read = refl; write = refl }) made).2 (map One calls) in-domain

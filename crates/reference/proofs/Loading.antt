@@ -156,7 +156,7 @@ module _ (m : Machine) (c : Core) (s : SoundMachine m) (same : Same m c) (given 
               (placing-held m given body 0 s.header l)
               (let p : place < size = ahead-lt size 0 (origin_of origin) (size-positive m s.header) in omega (arith, size_small m s.header))
               (let t = registered-below m.header (called given) s.numbers (passed (load_checks m given body 0) e).1.1.1.1.1.1.0 in omega arith)
-              (placing-room m given body 0 l.room);
+              (placing-room m given body 0 s.header l);
         })
 
   -- refused in the domain: the body is too long

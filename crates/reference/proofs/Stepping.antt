@@ -9,23 +9,24 @@ use mathlib.Core.Option.{Option, none, some}
 use native.Mathlib.Omega.{arith}
 use lib.Dec.{eqb, eqb-suc-zero}
 use lib.ListN.{length, get_or, drop, length-set, length-map}
-use borrow.Author.Tests.{eqb-true, leb-false, le-ltb, lt-leb}
+use borrow.Author.Tests.{eqb-true, le-ltb}
 use Rattle.laws.proofs.Every.{◌and◌}
 use Rattle.machine.specs.declared.Entry.{Entry}
 use Rattle.machine.specs.declared.Header.{Header}
 use Rattle.machine.specs.State.{Machine, Outcome, accepted, refusal, first}
 use Rattle.machine.specs.Queue.{entry, slots, entries, front, name_of, full, pop, push, started}
-use Rattle.machine.specs.Execution.{Ending, dat, divisor, Next, ends, goes, splits}
+use Rattle.machine.specs.Execution.{Ending, dat, divisor, Next, ends, goes, splits, is_split}
 use Rattle.machine.specs.Step.{popped, pc, instruction, effect, core_after, counted, queued, next_told, executed, step_checks, step}
 use Rattle.machine.specs.Whole.{Unlimited}
 use Rattle.machine.proofs.Checks.{passed, only, other, others, without}
 use Rattle.machine.proofs.Names.{Held}
-use Rattle.machine.proofs.Soundness.{SoundHeader, size_small, push-sound}
+use Rattle.machine.proofs.Soundness.{SoundHeader, room, size_small, push-sound}
+use Rattle.machine.proofs.ProcessLimit.{full-again}
 use Rattle.machine.proofs.Bounds.{thread-most}
 use Rattle.machine.proofs.Agreement.{Agree, pop-agree, pop-held, push-held, counted-agree, counted-held}
 use Rattle.machine.proofs.Pointers.{fields_at}
 use Rattle.machine.proofs.Execution.{Places}
-use Rattle.machine.proofs.Step.{next-places, step-by-cases, Ready, ready, not_last, front-held, counting, counting-sound, counting-room}
+use Rattle.machine.proofs.Step.{next-places, step-by-cases, Ready, ready, not_last, front-held, counting, counting-sound, counting-free, counting-room}
 use Rattle.machine.proofs.SoundMachine.{SoundMachine}
 use Rattle.reference.specs.Types.{Instruction}
 use Rattle.reference.specs.Process as Process
@@ -34,7 +35,7 @@ use Rattle.reference.specs.Opcodes.{Result, Execution, execute}
 use Rattle.reference.specs.Core as Rust
 use Rattle.reference.specs.Core.{Core, Err, Returned, unless_alive, with_queue, after, stepped}
 use Rattle.reference.specs.Same.{word_of, entry_of, Same}
-use Rattle.reference.specs.Refinement.{is_split, meets_step, answered, answer_of}
+use Rattle.reference.specs.Refinement.{meets_step, answered, answer_of}
 use Rattle.reference.proofs.Registers.{error_of, Matches}
 use Rattle.reference.proofs.Maps.{get-held}
 use Rattle.reference.proofs.Queues.{push-same, started-same, fewer, left, pop-is, counted_same}
@@ -117,14 +118,18 @@ module _ (m : Machine) (c : Core) (s : SoundMachine m) (whole : Unlimited m.head
       push-same (counting m) rust counting-same (counting-sound m r) (next p) t counting-held (place-fits p l) (let f : (popped m).thread < 2 ^ 32 = omega arith in f)
       (counting-room m r)
 
-  -- and a child, where the queue was not full
-  room-left : (p : ℕ) → full m (popped m).name ≡ false → (one p).header.ring.length < length (one p).queue
-  unfolding push counted pop
-  room-left p f =
-      rw (length-set m.queue _ _) (let a : h.ring.length < length m.queue = leb-false _ _ f in omega (arith, r.some))
-
   one-sound : (p : ℕ) → SoundHeader (one p)
-  one-sound p = push-sound (counting m) (counting-sound m r) (next p) counting-held.below (counting-room m r)
+  one-sound p = push-sound (counting m) (counting-sound m r) (next p) counting-held.below (counting-free m r)
+
+  -- and a child, where its name did not hold P
+  one-free : (p : ℕ) → full m (popped m).name ≡ false → full (one p) (popped m).name ≡ false
+  one-free p f = full-again m p r.entry.count ∙ f
+
+  one-held : (p : ℕ) → Held (one p).header (popped m).name t
+  one-held p = push-held (counting m) (next p) t (counting-sound m r) counting-held counting-agree (counting-room m r)
+
+  room-left : (p : ℕ) → full m (popped m).name ≡ false → (one p).header.ring.length < length (one p).queue
+  room-left p f = room (one p) (one-sound p) (popped m).name (one-held p).below (one-free p f)
 
   one-thread : (p : ℕ) → get_or (one p).header.threads (popped m).name 0 < 2 ^ 32
   unfolding push counted pop
@@ -134,7 +139,7 @@ module _ (m : Machine) (c : Core) (s : SoundMachine m) (whole : Unlimited m.head
       → Same (started y (popped m).name (one p)) (with_queue rust (Process.push t y none (rust-one p).process_queue))
   two-same p y l k f =
       started-same (one p) (rust-one p) (one_same p l) (one-sound p) y (popped m).name t
-      (push-held (counting m) (next p) t (counting-sound m r) counting-held counting-agree (counting-room m r)) (place-fits y k) (one-thread p) (room-left p f)
+      (one-held p) (place-fits y k) (one-thread p) (room-left p f)
 
   -- the count that thread_count finds
   abbrev count : ℕ
@@ -160,7 +165,7 @@ module _ (m : Machine) (c : Core) (s : SoundMachine m) (whole : Unlimited m.head
       rw q (record { answer = ap (λ (o : Option ℕ). unless_alive o DivideByZero) count-is ∙ alive divisor (pc m) count; same = counting-same })
   finish (goes p) y q l f = rw q.1 (record { answer = refl; same = rw q.2 (one_same p l) })
   finish (splits p y) z q l f =
-      rw (q.1, lt-leb (length (one p).queue) (one p).header.ring.length (room-left p f))
+      rw (q.1, one-free p f)
       (record { answer = refl; same = rw (q.2, q.3) (two-same p y l.0 l.1 f) })
 
   pub executed-agrees : meets_step m ≡ false → Agreed (executed m) (Rust.step c)

@@ -7,7 +7,7 @@ use Rattle.machine.specs.declared.Rules.{Rules}
 use Rattle.machine.specs.State.{Machine}
 use Rattle.machine.specs.Queue.{full}
 use Rattle.machine.specs.Fresh.{fresh}
-use Rattle.machine.specs.Execution.{Next, ends, goes, splits}
+use Rattle.machine.specs.Execution.{is_split}
 use Rattle.machine.specs.Step.{popped, effect, step}
 use Rattle.machine.specs.Run.{Ceiling, ceiling_of}
 use Rattle.machine.specs.Whole.{Unlimited}
@@ -24,12 +24,7 @@ Given (Load name body origin place) = (place ≡ 0) × (origin ≤ 65535)
 Given Step = Unit {0}
 Given (Run ceiling) = Unit {0}
 
--- the process limit is met: SPL is executed while the queue is full, so that its child is dropped. (A load at a full queue is answered 6.)
-abbrev pub is_split : Next → Bool
-is_split (ends x) = false
-is_split (goes p) = false
-is_split (splits p c) = true
-
+-- the process limit is met: SPL is executed while its name holds P entries, so that its child is dropped. (A load of such a name is answered 6.)
 abbrev pub meets_step : Machine → Bool
 meets_step m = is_split (effect m).next && full m (popped m).name
 

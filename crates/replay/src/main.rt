@@ -16,6 +16,9 @@ mod call;
 mod input;
 mod line;
 
+// A process limit that no recorded battle meets.
+const PROCESSES: u32 = 1024;
+
 // A battle: core size, number of calls, the calls.
 fn battle(input: &mut Input<'_>, core: &mut [u64], queue: &mut [u64]) -> Result<()>
     requires { 0 < length input.old.rest.now }
@@ -27,7 +30,7 @@ fn battle(input: &mut Input<'_>, core: &mut [u64], queue: &mut [u64]) -> Result<
         input.rest = &[];
         return Ok(());
     };
-    let mut header = fresh(of_size(size as u32), core, queue).header;
+    let mut header = fresh(of_size(size as u32, PROCESSES), core, queue).header;
     // How often is all that counts.
     for _ in 0..calls {
         let outcome = Call::read(input).make(core, queue, header);
@@ -46,11 +49,11 @@ fn battles(input: &[u8], core: &mut [u64], queue: &mut [u64]) -> Result<()> {
     Ok(())
 }
 
-// Memory for the input, the largest core, and a queue whose limit no recorded battle meets. By `io`: std's standard input and output would add an assumed contract, of the call for the error's number.
+// Memory for the input, the largest core, and the queue of a process limit that no recorded battle meets. By `io`: std's standard input and output would add an assumed contract, of the call for the error's number.
 fn main() {
     let mut input = zeros::<1200000>();
     let mut core = [0; LARGEST_CORE as usize];
-    let mut queue = [0; 16384];
+    let mut queue = [0; 16 * PROCESSES as usize];
     let length = io::read_full(0, &mut input);
     let _ = battles(&input[..length], &mut core, &mut queue);
 }

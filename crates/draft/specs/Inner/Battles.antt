@@ -1,5 +1,5 @@
 -- For each departure 1 to 6 battles in which the machine and the draft differ, for 1 and 3 also with limits, and two to which none applies: one table.
--- Inner. Assumes nothing. M 8, PC 0, untold limits are M, untold cells are fresh; the theorem is in proofs/Battles.antt.
+-- Inner. Assumes nothing. M 8, PC 0, P 2 or 1, untold limits are M, untold cells are fresh; the theorem is in proofs/Battles.antt.
 use Rattle.std.specs.Prelude.{ℕ, suc, Bool, true, false, cond, not, ◌&&◌, List, [], ◌∷◌, ◌++◌, map, take}
 use Rattle.laws.specs.Lists.{same}
 use Rattle.cell.specs.Cells.{packed, fresh_cell, sound_word}
@@ -68,7 +68,7 @@ abbrev pub battles : List Battle
 battles =
     -- 1: MOV.B <0,$1, cell 1 (B 5): the draft's target is cell 1, the machine's cell 0
     record {
-      rules = of_size 8;
+      rules = of_size 8 2;
       warrior = bytes MOV modifier.B mode.PreDecIndirectB 0 mode.Direct 1 ++ datum 0 5;
       told =
           record {
@@ -94,7 +94,7 @@ battles =
     }
     -- 2: MOV.I #3,$1: the draft copies the modes
     ∷ record {
-      rules = of_size 8;
+      rules = of_size 8 2;
       warrior = bytes MOV modifier.I mode.Immediate 3 mode.Direct 1;
       told =
           record {
@@ -107,7 +107,7 @@ battles =
     }
     -- 3: SEQ.I $1,>1: the draft compares the register
     ∷ record {
-      rules = of_size 8;
+      rules = of_size 8 2;
       warrior = bytes SEQ modifier.I mode.Direct 1 mode.PostIncIndirectB 1;
       told =
           record {
@@ -120,7 +120,7 @@ battles =
     }
     -- 3: DJN.B $3,>1: the draft decrements the live cell
     ∷ record {
-      rules = of_size 8;
+      rules = of_size 8 2;
       warrior = bytes DJN modifier.B mode.Direct 3 mode.PostIncIndirectB 1;
       told =
           record {
@@ -159,7 +159,7 @@ battles =
     }
     -- 4: DIV.B $1,$2 with B numbers 6, 4: the draft has 4/6
     ∷ record {
-      rules = of_size 8;
+      rules = of_size 8 2;
       warrior = bytes DIV modifier.B mode.Direct 1 mode.Direct 2 ++ (datum 0 6 ++ datum 0 4);
       told =
           record {
@@ -172,7 +172,7 @@ battles =
     }
     -- 4: MOD.B $1,$2 with B numbers 0, 4: in the draft zero a ends
     ∷ record {
-      rules = of_size 8;
+      rules = of_size 8 2;
       warrior = bytes MOD modifier.B mode.Direct 1 mode.Direct 2 ++ (datum 0 0 ++ datum 0 4);
       told =
           record {
@@ -185,7 +185,7 @@ battles =
     }
     -- 5: JMZ.F $3,$1, cell 1 (A 0, B 5): the draft wants both zero
     ∷ record {
-      rules = of_size 8;
+      rules = of_size 8 2;
       warrior = bytes JMZ modifier.F mode.Direct 3 mode.Direct 1 ++ datum 0 5;
       told =
           record {
@@ -198,7 +198,7 @@ battles =
     }
     -- 6: SEQ.I $1,$2, cells CMP.I $0,$0 and SEQ.I $0,$0: the draft has one opcode
     ∷ record {
-      rules = of_size 8;
+      rules = of_size 8 2;
       warrior =
           bytes SEQ modifier.I mode.Direct 1 mode.Direct 2
           ++ (bytes CMP modifier.I mode.Direct 0 mode.Direct 0 ++ bytes SEQ modifier.I mode.Direct 0 mode.Direct 0);
@@ -221,7 +221,7 @@ battles =
     }
     -- none: MOV.I $0,$1
     ∷ record {
-      rules = of_size 8;
+      rules = of_size 8 2;
       warrior = bytes MOV modifier.I mode.Direct 0 mode.Direct 1;
       told =
           record {
@@ -234,7 +234,7 @@ battles =
     }
     -- none: SPL.B $2,$0
     ∷ record {
-      rules = of_size 8;
+      rules = of_size 8 2;
       warrior = bytes SPL modifier.B mode.Direct 2 mode.Direct 0;
       told =
           record {

@@ -1,6 +1,6 @@
 -- Steps with read and write limits (02, A.2), one for each place that could be read otherwise: what the definitions give, and what is wanted. The theorem is in proofs/Battles.antt.
 -- Inner. Assumes nothing.
-use Rattle.std.specs.Prelude.{ℕ, ◌≡◌, List, [], ◌∷◌, ◌++◌, map, get_or, set, replicate}
+use Rattle.std.specs.Prelude.{ℕ, ◌*◌, ◌≡◌, List, [], ◌∷◌, ◌++◌, map, get_or, set, replicate}
 use Rattle.cell.specs.Cells.{sound_word}
 use Rattle.types.specs.Opcode.{ADD, JMP, DJN, SEQ, NOP}
 use Rattle.types.specs.Modifier as modifier
@@ -25,9 +25,9 @@ limited size read write = record { size = size; read = read; write = write; proc
 abbrev told : Rules → ℕ → ℕ → ℕ
 told rules cells slots = (fresh rules (replicate cells 0) (replicate slots 0)).number
 
--- a fresh machine of these rules with a body at a place, and one entry there
+-- a fresh machine of these rules, with 16 times P entries of queue memory, a body at a place and one entry there
 abbrev pub board_at : ℕ → Rules → List ℕ → Machine
-board_at place rules body = (load (fresh rules (replicate rules.size 0) (replicate 16 0)).machine [] body 65535 place).machine
+board_at place rules body = (load (fresh rules (replicate rules.size 0) (replicate (16 * rules.processes) 0)).machine [] body 65535 place).machine
 
 -- the same with a word at a place that is no cell
 abbrev broken : ℕ → Machine → Machine

@@ -1,6 +1,6 @@
 -- Match files loaded in one call, and what came of each: accepted, refused by each row of the order, and stopped at a warrior. The theorem is in proofs/Matches.antt.
 -- Inner. Assumes nothing.
-use Rattle.std.specs.Prelude.{ℕ, List, [], ◌∷◌, ◌++◌, replicate}
+use Rattle.std.specs.Prelude.{ℕ, ◌*◌, List, [], ◌∷◌, ◌++◌, replicate}
 use Rattle.program.specs.Program.{lawful, lowest_fault, cells}
 use Rattle.machine.specs.State.{of_size, Machine}
 use Rattle.machine.specs.Names.{register, numbered}
@@ -31,13 +31,13 @@ nop = 16 ∷ 4 ∷ 1 ∷ 1 ∷ replicate 8 0
 abbrev bad : List ℕ
 bad = 19 ∷ 4 ∷ 1 ∷ 1 ∷ replicate 8 0
 
--- a fresh machine of 8 cells and that many queue entries
+-- a fresh machine of 8 cells and that P
 abbrev eight : ℕ → Machine
-eight entries = (fresh (of_size 8) (replicate 8 0) (replicate entries 0)).machine
+eight processes = (fresh (of_size 8 processes) (replicate 8 0) (replicate (16 * processes) 0)).machine
 
 -- its record with one cell too few
 abbrev unsound : Machine
-unsound = machine_of (replicate 7 0) (0 ∷ []) (blank (of_size 8))
+unsound = machine_of (replicate 7 0) (replicate 16 0) (blank (of_size 8 1))
 
 -- a file of M and two warriors: A with one NOP, and B with a body, at 4
 abbrev pair : ℕ → List ℕ → List ℕ
@@ -52,8 +52,8 @@ matches =
     ∷ record { got = told (load_match (eight 4) (pair 8 (nop ++ bad))); wanted = 4 ∷ 1 ∷ 1 ∷ 1 ∷ 1 ∷ 1 ∷ [] }
     -- warrior 0 is refused: none stands
     ∷ record { got = told (load_match (eight 4) (file 8 (warrior [] bad 0 0 ∷ warrior [] nop 0 4 ∷ []))); wanted = 4 ∷ 0 ∷ 0 ∷ 0 ∷ 0 ∷ 0 ∷ [] }
-    -- warrior 1 finds no room
-    ∷ record { got = told (load_match (eight 1) (pair 8 nop)); wanted = 6 ∷ 0 ∷ 1 ∷ 1 ∷ 1 ∷ 1 ∷ [] }
+    -- warrior 1 has the name of warrior 0, which holds P
+    ∷ record { got = told (load_match (eight 1) (file 8 (warrior [] nop 0 0 ∷ warrior [] nop 0 4 ∷ []))); wanted = 6 ∷ 0 ∷ 1 ∷ 1 ∷ 1 ∷ 1 ∷ [] }
     -- an M unlike the machine's, of a core or not
     ∷ record { got = told (load_match (eight 4) (pair 9 nop)); wanted = 1 ∷ 0 ∷ 0 ∷ 0 ∷ 0 ∷ 0 ∷ [] }
     ∷ record { got = told (load_match (eight 4) (pair 0 nop)); wanted = 1 ∷ 0 ∷ 0 ∷ 0 ∷ 0 ∷ 0 ∷ [] }
