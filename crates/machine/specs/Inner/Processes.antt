@@ -42,6 +42,17 @@ split name place m = load m name (bytes SPL modifier.B mode.Direct 2 mode.Direct
 abbrev dat : List ℕ → Machine → Outcome
 dat name m = load m name (datum 0 0) 65535 7
 
+-- the same with another P, or other counts
+abbrev with_P : ℕ → Machine → Machine
+with_P processes m =
+    let h = m.header in
+    under (record { rules = of_size h.rules.size processes; ring = h.ring; steps = h.steps; names = h.names; counts = h.counts; threads = h.threads }) m
+
+abbrev with_counts : List ℕ → Machine → Machine
+with_counts counts m =
+    let h = m.header in
+    under (record { rules = h.rules; ring = h.ring; steps = h.steps; names = h.names; counts = counts; threads = h.threads }) m
+
 -- so many names are loaded, one entry each
 abbrev crowded : ℕ → Machine → Machine
 crowded zero m = m
@@ -92,15 +103,15 @@ processes =
           ∷ [];
       wanted = 6 ∷ 0 ∷ 0 ∷ 6 ∷ 0 ∷ 6 ∷ [];
     }
-    -- a count over P is 9
+    -- in a header 9: a count over P, and a P that fresh does not take
     ∷ record {
-      got =
-          let m = (dat A (split A 0 (eight 2)).machine).machine in
-          let h = m.header in
-          (step (under (record { rules = of_size 8 1; ring = h.ring; steps = h.steps; names = h.names; counts = h.counts; threads = h.threads }) m)).number
-          ∷ (step (under (record { rules = of_size 8 3; ring = h.ring; steps = h.steps; names = h.names; counts = h.counts; threads = h.threads }) m)).number
-          ∷ [];
-      wanted = 9 ∷ 9 ∷ [];
+      got = let m = (dat A (split A 0 (eight 2)).machine).machine in (step (with_P 2 m)).number ∷ (step (with_P 1 m)).number ∷ (step (with_P 3 m)).number ∷ [];
+      wanted = 0 ∷ 9 ∷ 9 ∷ [];
+    }
+    -- the count of a slot that no name has plays no part: the header is sound, and a new name holds none
+    ∷ record {
+      got = let m = with_counts (1 ∷ 9 ∷ replicate 14 0) (split A 0 (eight 1)).machine in (step m).number ∷ leaves (dat B m);
+      wanted = 0 ∷ 0 ∷ 1 ∷ 0 ∷ 0 ∷ 0 ∷ 1 ∷ 7 ∷ 0 ∷ 1 ∷ 1 ∷ 1 ∷ 1 ∷ [];
     }
     ∷ []
 
