@@ -12,7 +12,7 @@ ghost use Rattle.soundness.specs.Inner.Keys.{key_of, Keyed, times_in};
 
 use encoding::{byte, number32};
 use entry::unpack;
-use fold::{valid_limits, valid_processes};
+use fold::valid_limits;
 use machine::limits::{LARGEST_CORE, MOST_ENTRIES, MOST_NAMES};
 use machine::{Processes, Ring, Roster, Rules};
 use names::{equal, name_at};
@@ -118,32 +118,31 @@ fn counts_sound(counts: &[u32], entries: u32, limit: u32) -> bool
     ensures { result ≡ (eqb (total counts.now) entries && every (λ c. leb c limit) counts.now) }
 {
     let mut sum: u64 = 0;
-    let mut within = true;
+    let mut most: u32 = 0;
     for count in counts {
         sum += *count as u64;
-        within &= *count <= limit;
+        most = most.max(*count);
     }
-    (sum == entries as u64) & within
+    (sum == entries as u64) & (most <= limit)
 }
 
-// Whether M, the limits, P and the memories' lengths are such as fresh takes, and the head lies in the queue memory: row by row, so `queue::headed`, which has two of the rows, is not asked.
+// Whether M, the limits, P and the memories' lengths are such as fresh takes, and the head lies in the queue memory: row by row, so `queue::headed`, which has two of the rows, is not asked, nor `fold::valid_processes`: that there is a slot and that P is at most 4,095 follows from the other rows.
 pub fn in_bounds(core: &[u64], queue: &[u64], rules: Rules, ring: Ring) -> bool
     ensures { result ≡ bounded core.now queue.now rules ring.head }
 {
     let slots = queue.len();
-    let processes = valid_processes(rules.processes, slots);
     let limits = valid_limits(rules);
     (1 <= rules.size)
         & (rules.size <= LARGEST_CORE)
         & (rules.size as usize == core.len())
-        & (1 <= slots)
+        & (1 <= rules.processes)
+        & (16 * rules.processes as usize <= slots)
         & (slots <= MOST_ENTRIES)
-        & processes
         & limits
         & ((ring.head as usize) < slots)
 }
 
-// Whether a header is sound beside the core's and the queue's memory; its parts are lent as load and a run have them.
+// Whether a header is sound beside the core's and the queue's memory; its parts are lent as load and a run have them. That the length is at most the queue memory's entries follows: at most 16 counts, none over P, sum to it.
 pub fn sound_header(
     core: &[u64],
     queue: &[u64],
@@ -154,23 +153,19 @@ pub fn sound_header(
     ensures { result ≡ sound_header (parts core.now queue.now rules names.now processes.now) }
 {
     let ring = processes.ring;
-    let numbers = in_bounds(core, queue, rules, ring)
-        & (ring.length as usize <= queue.len())
-        & (names.held <= MOST_NAMES);
+    let numbers = in_bounds(core, queue, rules, ring) & (names.held <= MOST_NAMES);
     if !numbers {
+        return false;
+    }
+    // Before the names, so that less is kept meanwhile.
+    let counts = &processes.counts[..held(names)];
+    if !counts_sound(counts, ring.length, rules.processes) {
         return false;
     }
     if !names_valid(names) {
         return false;
     }
-    if !names_distinct(names) {
-        return false;
-    }
-    counts_sound(
-        &processes.counts[..held(names)],
-        ring.length,
-        rules.processes,
-    )
+    names_distinct(names)
 }
 
 // Whether a front entry is sound.
