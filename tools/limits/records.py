@@ -8,6 +8,11 @@ from stepping import JMP, SPL
 FRESH, STEP, RUN = range(3)
 SIZES = [1, 2, 3, 4, 5, 6, 7, 8, 8, 9, 12, 12, 13, 16, 20, 24, 30, 36, 60]
 LARGE = [8000, LARGEST_SIZE - 1, LARGEST_SIZE]
+# P and a number of slots that no fresh machine may have, or only just
+FEW = [(0, 16), (1, 0), (1, 1), (1, 15), (1, 16), (2, 16), (4, 63), (2**28, 16), (2**28 + 1, 32), (LAST_NUMBER, 16)]
+MANY = [(0, NAMES * MOST_PROCESSES), (1, LONGEST_QUEUE), (1, LONGEST_QUEUE + 1), (MOST_PROCESSES, NAMES * MOST_PROCESSES - 1),
+        (MOST_PROCESSES, NAMES * MOST_PROCESSES), (MOST_PROCESSES, LONGEST_QUEUE), (MOST_PROCESSES + 1, LONGEST_QUEUE),
+        (MOST_PROCESSES + 1, LONGEST_QUEUE + 1)]
 
 
 def divisors(size):
@@ -50,11 +55,10 @@ def fill_queue(dice, record):
 
 def random_record(dice):
     size = dice.choice(LARGE if dice.random() < 0.003 else SIZES)
-    processes, entries = queue_rules(dice, 0.001)
-    entries = min(entries, LONGEST_QUEUE)
-    record = made_record(dice, size, processes, entries)
-    while record.length == 0 and dice.random() < 0.97:
-        record = made_record(dice, size, processes, entries)
+    processes, slots = queue_rules(dice, 0.001)
+    record = made_record(dice, size, processes, slots)
+    while record.length == 0 and dice.random() < 0.9:
+        record = made_record(dice, size, processes, slots)
     if dice.random() < 0.7:
         record.threads = [dice.randrange(9) for _ in record.threads]
     record.read, record.write = dice.choice(DIVISORS[size]), dice.choice(DIVISORS[size])
@@ -97,20 +101,10 @@ def damage_limits(dice, record):
         record.write = faulty_limit(dice, record.size)
 
 
-def faulty_queue(dice):
-    """P and the number of entries that no fresh machine may have, or only just."""
-    largest = NAMES * MOST_PROCESSES
-    few = [(0, 16), (1, 0), (1, 1), (1, 15), (1, 16), (2, 16), (4, 63), (2**28, 16), (2**28 + 1, 32), (LAST_NUMBER, 16)]
-    many = [(0, largest), (1, LONGEST_QUEUE), (1, LONGEST_QUEUE + 1), (MOST_PROCESSES, largest - 1), (MOST_PROCESSES, largest),
-            (MOST_PROCESSES, LONGEST_QUEUE), (MOST_PROCESSES + 1, LONGEST_QUEUE), (MOST_PROCESSES + 1, LONGEST_QUEUE + 1)]
-    return dice.choice(many if dice.random() < 0.2 else few)
-
-
-def fresh_case(dice):
+def fresh_case(dice, processes, slots):
     """Rules over memories of any content; half of them with something that is refused."""
     size = dice.choice(SIZES)
-    processes, entries = faulty_queue(dice) if dice.random() < 0.3 else queue_rules(dice, 0)
-    record = fresh_record(size, processes, entries)
+    record = fresh_record(size, processes, slots)
     record.core, record.queue = ([dice.getrandbits(64) for _ in memory] for memory in (record.core, record.queue))
     record.read, record.write = dice.choice(DIVISORS[size]), dice.choice(DIVISORS[size])
     if dice.random() < 0.3:
@@ -123,7 +117,7 @@ def fresh_case(dice):
 def random_case(dice):
     """A call, its ceiling (None where none is said) and a record."""
     if dice.random() < 0.1:
-        return fresh_case(dice)
+        return fresh_case(dice, *(dice.choice(FEW) if dice.random() < 0.3 else queue_rules(dice, 0)))
     record = random_record(dice)
     chance = dice.random()
     if chance < 0.18:
@@ -146,7 +140,9 @@ def random_case(dice):
 
 
 def cases(seed):
-    """Cases without end."""
+    """Cases without end, the first of them fresh machines."""
     dice = random.Random(seed)
+    for rules in FEW + MANY:
+        yield fresh_case(dice, *rules)
     while True:
         yield random_case(dice)

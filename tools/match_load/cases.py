@@ -1,4 +1,4 @@
-"""Cases for compare.py, a record and a match file each: a file cut at each length and changed in each byte, then random ones."""
+"""Cases for compare.py, a record and a match file each: a file cut at each length and changed in each byte, large queues, then random ones."""
 import contextlib
 import random
 import struct
@@ -7,7 +7,7 @@ from loading import FRESH_CELL, LARGEST_SIZE, LAST_NUMBER, LONGEST_QUEUE, MOST_P
 from model import Machine, Refused
 
 LINE = 43
-# P, and a P with a queue memory that is not near 16 times P entries
+# values of P, and a P with the number of slots of a large queue memory
 PROCESSES = [1, 1, 2, 2, 3, 4, 5, 8, 16]
 LARGE = [(125, 2000), (1, LONGEST_QUEUE), (1, LONGEST_QUEUE + 1), (MOST_PROCESSES, LONGEST_QUEUE), (MOST_PROCESSES, NAMES * MOST_PROCESSES)]
 NUMBERS = [0, 0, 1, 1, -1, 2, -2, 7, 9, 100, -100, 65535, 65536, 2**31 - 1, -(2**31)]
@@ -26,20 +26,20 @@ def made(size, warriors):
     return struct.pack("<BHB", len(warriors), size, 0) + lines + b"".join(body for _, body, _, _ in warriors)
 
 
-def fresh_record(size, processes, entries=None):
-    """A fresh machine without a read and a write limit; its queue memory has as few entries as P needs, where their number is not said."""
-    record = Record([FRESH_CELL] * size, [0] * (NAMES * processes if entries is None else entries))
+def fresh_record(size, processes, slots=None):
+    """A fresh machine without a read and a write limit, with as few slots in the queue memory as P needs where their number is not said."""
+    record = Record([FRESH_CELL] * size, [0] * (NAMES * processes if slots is None else slots))
     record.size = record.read = record.write = size
     record.processes = processes
     return record
 
 
 def queue_rules(dice, large):
-    """P and the number of entries, as few as it needs or some more; the chance of a large queue is given."""
+    """P and a number of slots, as few as it needs or some more; the chance of a large queue memory is given."""
     if dice.random() < large:
         return dice.choice(LARGE)
     processes = dice.choice(PROCESSES)
-    return processes, NAMES * processes + dice.choice([0, 0, 0, 1, 5, 16])
+    return processes, NAMES * processes + dice.choice([0, 0, 0, 1, 5, 15, 16])
 
 
 def instruction(dice, opcodes=19):
@@ -115,7 +115,7 @@ def changed(dice, file, at):
     return file[:at] + bytes([byte]) + file[at + 1:]
 
 
-def played_record(dice, size, processes, entries):
+def played_record(dice, size, processes, slots):
     """A machine with warriors loaded and stepped by the model of tools/matches; slots not taken hold anything."""
     machine = Machine(size, processes)
     for _ in range(dice.randint(1, 4)):
@@ -124,17 +124,17 @@ def played_record(dice, size, processes, entries):
             machine.load(dice.choice(POOL), codes, dice.choice([NO_ORIGIN, 0, 1]), dice.randrange(size))
     for _ in range(dice.randint(0, 30)):
         machine.step()
-    record = fresh_record(size, processes, entries)
+    record = fresh_record(size, processes, slots)
     record.core = [word(opcode, modifier, *modes, *numbers) for opcode, modifier, modes, numbers in machine.core]
-    record.queue = [dice.getrandbits(64) for _ in range(entries)]
-    record.steps, record.head = machine.steps, machine.steps % entries
+    record.queue = [dice.getrandbits(64) for _ in range(slots)]
+    record.steps, record.head = machine.steps, machine.steps % slots
     record.length, record.held = len(machine.queue), len(machine.counts)
     names = list(machine.counts)
     for i, name in enumerate(names):
         record.name(i, name.encode())
         record.counts[i], record.threads[i] = machine.counts[name], machine.threads[name]
     for k, (place, thread, name) in enumerate(machine.queue, record.head):
-        record.queue[k % entries] = entry(place, thread, names.index(name))
+        record.queue[k % slots] = entry(place, thread, names.index(name))
     return record
 
 
@@ -145,11 +145,11 @@ def held_counts(dice, held, processes):
     return [dice.choice([0, 1, processes - 1, processes, processes, dice.randint(0, processes)]) for _ in range(held)]
 
 
-def made_record(dice, size, processes, entries):
+def made_record(dice, size, processes, slots):
     """A sound header over any memory: names up to the sixteenth, counters near their end, slots without a name that hold anything."""
-    record = fresh_record(size, processes, entries)
+    record = fresh_record(size, processes, slots)
     record.core = [dice.getrandbits(64) for _ in range(size)] if size <= 60 else record.core
-    record.queue = [dice.getrandbits(64) for _ in range(entries)] if entries <= 400 else record.queue
+    record.queue = [dice.getrandbits(64) for _ in range(slots)] if slots <= 400 else record.queue
     record.held = dice.choice([0, 1, 2, 5, 14, 15, 15, 16, 16])
     for i in range(record.held, NAMES):
         record.name(i, bytes(dice.randrange(256) for _ in range(NAME_BYTES)))
@@ -163,7 +163,7 @@ def made_record(dice, size, processes, entries):
         record.threads[i] = LAST_NUMBER - dice.randrange(3) if dice.random() < 0.3 else dice.randrange(9)
     record.counts[:record.held] = held_counts(dice, record.held, processes)
     record.length = sum(record.counts[:record.held])
-    record.head, record.steps = dice.choice([0, entries - 1, dice.randrange(entries)]), dice.choice([0, 7, LAST_NUMBER])
+    record.head, record.steps = dice.choice([0, slots - 1, dice.randrange(slots)]), dice.choice([0, 7, LAST_NUMBER])
     return record
 
 
@@ -223,15 +223,15 @@ def damage_limit(dice, record):
 
 def damaged(dice, record):
     """The record with one field of its header, one bit of it or a memory's length changed; some of these are sound."""
-    entries = len(record.queue)
+    slots = len(record.queue)
     kind = dice.randrange(13)
     if kind == 0:
         record.size = dice.choice([0, record.size - 1, record.size + 1, LARGEST_SIZE, LARGEST_SIZE + 1, LAST_NUMBER])
     elif kind == 1:
-        record.head = dice.choice([0, entries - 1, entries, entries + 1, LAST_NUMBER])
+        record.head = dice.choice([0, slots - 1, slots, slots + 1, LAST_NUMBER])
     elif kind == 2:
         before = record.length
-        record.length = dice.choice([0, before + 1, entries, entries + 1, LAST_NUMBER])
+        record.length = dice.choice([0, before + 1, slots, slots + 1, LAST_NUMBER])
         if dice.random() < 0.5:
             record.counts[0] = (record.counts[0] + record.length - before) % 2**32
     elif kind == 3:
@@ -260,11 +260,11 @@ def damaged(dice, record):
 
 def random_record(dice):
     size = dice.choice([8000, LARGEST_SIZE] if dice.random() < 0.002 else [1, 2, 3, 5, 8, 8, 13, 40, 60])
-    processes, entries = queue_rules(dice, 0.003)
+    processes, slots = queue_rules(dice, 0.003)
     kind = dice.choice([fresh_record, played_record, made_record, made_record])
     if kind is fresh_record or size > 8000:
-        return fresh_record(size, processes, entries)
-    return kind(dice, size, processes, entries)
+        return fresh_record(size, processes, slots)
+    return kind(dice, size, processes, slots)
 
 
 def random_case(dice):
@@ -285,5 +285,7 @@ def cases(seed):
         yield fresh_record(8, 4), pair[:length]
     for at in range(len(pair)):
         yield fresh_record(8, 4), changed(dice, pair, at)
+    for rules in LARGE:
+        yield fresh_record(8, *rules), pair
     while True:
         yield random_case(dice)

@@ -77,14 +77,14 @@ class Record:
 
     def faults(self):
         """What is unsound in the header, a word for each test."""
-        entries, counts = len(self.queue), self.counts[:self.held]
+        slots, counts = len(self.queue), self.counts[:self.held]
         tests = {
             "M": 1 <= self.size <= LARGEST_SIZE,
             "core": self.size == len(self.core),
-            "queue": 1 <= entries <= LONGEST_QUEUE,
-            "P": 1 <= self.processes <= MOST_PROCESSES and entries >= NAMES * self.processes,
+            "queue": 1 <= slots <= LONGEST_QUEUE,
+            "P": 1 <= self.processes <= MOST_PROCESSES and slots >= NAMES * self.processes,
             "limits": divides(self.read, self.size) and divides(self.write, self.size),
-            "ring": self.length <= entries and self.head < entries,
+            "ring": self.length <= slots and self.head < slots,
             "names": self.sound_names(),
             "sum": sum(counts) == self.length,
             "count over P": all(count <= self.processes for count in counts),
