@@ -103,8 +103,8 @@ static uint32_t random_processes(uint32_t slots) {
 // as if the first name held so many entries more
 static void add(sumacadze_header_t *h, uint32_t entries) { h->counts[0] += entries, h->ring.length += entries; }
 
-// one bit of a cell or of one of the first entries, a count, a counter near its end, a limit, P, a count and the length, or a
-// byte of the header
+// one bit of a cell or of one of the first entries, a count, a counter near its end, a limit, P, a count and the length with it,
+// or a byte of the header
 static void damage(record *r) {
     sumacadze_header_t *h = &r->header;
     switch (rand() % 12) {
