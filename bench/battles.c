@@ -31,7 +31,8 @@ void put(start *s, uint32_t at, line l) {
 }
 
 void start_of(start *s, const battle *b) {
-    s->size = s->read = s->write = M, s->limit = LIMIT, s->names = b->names, s->apart = b->apart, s->length = 0;
+    s->size = s->read = s->write = M, s->processes = PROCESSES, s->slots = SLOTS;
+    s->names = b->names, s->apart = b->apart, s->length = 0;
     for (const line *l = b->lines; l->opcode >= 0; l++) {
         while (s->length < (uint32_t)l->at)
             put(s, s->length++, (line){0, 0, 4, 1, 1, 0, 0});

@@ -4,7 +4,7 @@
 
 #include <stdint.h>
 
-enum { M = 8000, LIMIT = 2000, FOUR = 4, ALL = 6, NAME = 16 };
+enum { M = 8000, SLOTS = 2000, PROCESSES = 125, FOUR = 4, ALL = 6, NAME = 16 };
 
 // One instruction, by the numbers of docs/MACHINE.md, and its place.
 typedef struct {
@@ -21,9 +21,9 @@ typedef struct {
 // imp, dwarf, splitter and mixed; then imps of 2 and of 16 names
 extern const battle BATTLES[ALL];
 
-// What a machine is made of: its rules, the queue's length, its names and the first one's body, as bytes for a load.
+// What a machine is made of: its rules, the queue memory's length, its names and the first one's body, as bytes for a load.
 typedef struct {
-    uint32_t size, read, write, limit, names, apart, length;
+    uint32_t size, read, write, processes, slots, names, apart, length;
     uint8_t body[12 * M];
 } start;
 

@@ -162,7 +162,7 @@ static double load_turn(void) {
     library_record(&ours, &begun);
     sumacadze_header_t *h = &ours.header;
     double t = now();
-    sumacadze_report_t r = sumacadze_load(ours.core, M, ours.queue, LIMIT, h, (const uint8_t *)"a", 1, begun.body, 12 * M, 0, 0);
+    sumacadze_report_t r = sumacadze_load(ours.core, M, ours.queue, SLOTS, h, (const uint8_t *)"a", 1, begun.body, 12 * M, 0, 0);
     t = now() - t;
     demand(r.number == 0, "the load was refused", BATTLES[0].name);
     return t / M;

@@ -7,12 +7,12 @@
 #include <string.h>
 #include <time.h>
 
-enum { M = 8000, LIMIT = 2000, ONE = 12, KINDS = 4 };
+enum { M = 8000, SLOTS = 2000, PROCESSES = 125, ONE = 12, KINDS = 4 };
 
 // One of MOV alone, as in driver.c; the others of all opcodes and modes: in turn, at random, and at random with a modifier named.
 static const char *const KIND[KINDS] = {"mov", "in-turn", "random", "named"};
 
-static uint64_t core[M], queue[LIMIT];
+static uint64_t core[M], queue[SLOTS];
 static uint8_t body[ONE * M];
 
 static uint32_t drawn(void) {
@@ -37,7 +37,7 @@ static void make_body(int kind) {
 }
 
 static void load(sumacadze_header_t *h) {
-    sumacadze_report_t r = sumacadze_load(core, M, queue, LIMIT, h, (const uint8_t *)"a", 1, body, sizeof body, 0, 0);
+    sumacadze_report_t r = sumacadze_load(core, M, queue, SLOTS, h, (const uint8_t *)"a", 1, body, sizeof body, 0, 0);
     if (r.number != 0) {
         fprintf(stderr, "a load was refused: %d\n", r.number);
         exit(1);
@@ -51,7 +51,8 @@ static double now(void) {
 }
 
 int main(int count, char **words) {
-    sumacadze_header_t fresh = sumacadze_fresh(sumacadze_rules_of_size(M), core, M, queue, LIMIT).header;
+    sumacadze_rules_t rules = sumacadze_rules_of_size(M, PROCESSES);
+    sumacadze_header_t fresh = sumacadze_fresh(rules, core, M, queue, SLOTS).header;
     if (count == 4) {
         make_body(atoi(words[2]));
         for (long left = atol(words[3]); left > 0; left--) {

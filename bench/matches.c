@@ -40,13 +40,13 @@ void make_match(void) {
 static bool nothing(record *r) { return r->header.rules.size == M; }
 
 static bool one_call(record *r) {
-    sumacadze_loads_t loads = sumacadze_load_match(r->core, M, r->queue, LIMIT, r->header, file, sizeof file);
+    sumacadze_loads_t loads = sumacadze_load_match(r->core, M, r->queue, SLOTS, r->header, file, sizeof file);
     r->header = loads.header;
     return loads.report.number == SUMACADZE_DONE;
 }
 
 static bool load(record *r, const sumacadze_line_t *l) {
-    return sumacadze_load(r->core, M, r->queue, LIMIT, &r->header, file + l->name_start, l->name_length, file + l->body_start,
+    return sumacadze_load(r->core, M, r->queue, SLOTS, &r->header, file + l->name_start, l->name_length, file + l->body_start,
                           l->body_length, l->origin, l->place).number == SUMACADZE_DONE;
 }
 
@@ -70,7 +70,7 @@ static bool read_loads(record *r) {
 const way LOADING[WAYS] = {{"fresh", nothing}, {"one-call", one_call}, {"known-loads", known_loads}, {"read-loads", read_loads}};
 
 bool load_match_by(const way *w, record *r) {
-    r->size = M, r->limit = LIMIT;
-    r->header = sumacadze_fresh(sumacadze_rules_of_size(M), r->core, M, r->queue, LIMIT).header;
+    r->size = M, r->slots = SLOTS;
+    r->header = sumacadze_fresh(sumacadze_rules_of_size(M, PROCESSES), r->core, M, r->queue, SLOTS).header;
     return w->load(r);
 }

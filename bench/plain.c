@@ -77,8 +77,8 @@ static int evaluate(uint64_t *core, const sumacadze_rules_t *rules, uint32_t pc,
     return 1;
 }
 
-static void push(uint64_t *queue, uint32_t limit, sumacadze_header_t *h, uint32_t place, uint32_t thread, uint32_t name) {
-    queue[(h->ring.head + h->ring.length) % limit] = (uint64_t)name << 48 | (uint64_t)thread << 16 | place;
+static void push(uint64_t *queue, uint32_t slots, sumacadze_header_t *h, uint32_t place, uint32_t thread, uint32_t name) {
+    queue[(h->ring.head + h->ring.length) % slots] = (uint64_t)name << 48 | (uint64_t)thread << 16 | place;
     h->ring.length++;
     h->counts[name]++;
 }
@@ -95,7 +95,7 @@ static uint32_t value(uint32_t opcode, uint32_t size, uint32_t a, uint32_t b) {
 }
 
 // one step: 01's order of refusals, then the instruction
-static sumacadze_report_t step(uint64_t *core, uint64_t *queue, uint32_t limit, sumacadze_header_t *h) {
+static sumacadze_report_t step(uint64_t *core, uint64_t *queue, uint32_t slots, sumacadze_header_t *h) {
     sumacadze_report_t r = {0, 0, 0, 0};
     uint32_t size = h->rules.size;
     if (h->ring.length == 0)
@@ -118,7 +118,7 @@ static sumacadze_report_t step(uint64_t *core, uint64_t *queue, uint32_t limit, 
         core[a.location] = a.old;
         return r.number = 9, r;
     }
-    h->ring.head = (h->ring.head + 1) % limit;
+    h->ring.head = (h->ring.head + 1) % slots;
     h->ring.length--;
     h->counts[name]--;
     h->steps++;
@@ -176,13 +176,13 @@ static sumacadze_report_t step(uint64_t *core, uint64_t *queue, uint32_t limit, 
         break;
     case 14: if (below) next = (pc + 2) % size; break;
     }
-    push(queue, limit, h, next, thread, name);
-    if (i.opcode == 15 && h->ring.length < limit)
-        push(queue, limit, h, a.read, h->threads[name]++, name);
+    push(queue, slots, h, next, thread, name);
+    if (i.opcode == 15 && h->counts[name] < h->rules.processes)
+        push(queue, slots, h, a.read, h->threads[name]++, name);
     return r;
 }
 
-// the names are valid, not empty and unlike the others, and their counts sum to the length
+// the names are valid, not empty and unlike the others, and their counts are at most P and sum to the length
 static int sound_names(const sumacadze_header_t *h) {
     uint64_t sum = 0;
     for (uint32_t i = 0; i < h->names.held; i++) {
@@ -195,6 +195,8 @@ static int sound_names(const sumacadze_header_t *h) {
         for (uint32_t k = 0; k < i; k++)
             if (h->names.lengths[k] == h->names.lengths[i] && !memcmp(h->names.bytes + 32 * k, name, h->names.lengths[i]))
                 return 0;
+        if (h->counts[i] > h->rules.processes)
+            return 0;
         sum += h->counts[i];
     }
     return sum == h->ring.length;
@@ -202,24 +204,30 @@ static int sound_names(const sumacadze_header_t *h) {
 
 static int divides(uint32_t limit, uint32_t size) { return limit && size % limit == 0; }
 
-static int sound_header(size_t m, size_t limit, const sumacadze_header_t *h) {
-    return h->rules.size >= 1 && h->rules.size <= 46341 && h->rules.size == m && limit >= 1 && limit <= 65535 &&
-           divides(h->rules.read, h->rules.size) && divides(h->rules.write, h->rules.size) && h->ring.length <= limit && h->ring.head < limit && h->names.held <= 16 && sound_names(h);
+// what fresh takes
+static int sound_rules(size_t m, size_t slots, const sumacadze_rules_t *r) {
+    return r->size >= 1 && r->size <= 46341 && r->size == m && slots >= 1 && slots <= 65535 && r->processes >= 1 &&
+           r->processes <= 4095 && slots >= 16 * r->processes && divides(r->read, r->size) && divides(r->write, r->size);
 }
 
-sumacadze_report_t plain_step(uint64_t *core, size_t m, uint64_t *queue, size_t limit, sumacadze_header_t *h) {
-    if (!sound_header(m, limit, h))
+static int sound_header(size_t m, size_t slots, const sumacadze_header_t *h) {
+    return sound_rules(m, slots, &h->rules) && h->ring.length <= slots && h->ring.head < slots && h->names.held <= 16 &&
+           sound_names(h);
+}
+
+sumacadze_report_t plain_step(uint64_t *core, size_t m, uint64_t *queue, size_t slots, sumacadze_header_t *h) {
+    if (!sound_header(m, slots, h))
         return (sumacadze_report_t){9, 0, 0, 0};
-    return step(core, queue, limit, h);
+    return step(core, queue, slots, h);
 }
 
-sumacadze_report_t plain_run(uint64_t *core, size_t m, uint64_t *queue, size_t limit, sumacadze_header_t *h, bool said,
+sumacadze_report_t plain_run(uint64_t *core, size_t m, uint64_t *queue, size_t slots, sumacadze_header_t *h, bool said,
                              uint64_t ceiling) {
-    if (!sound_header(m, limit, h))
+    if (!sound_header(m, slots, h))
         return (sumacadze_report_t){9, 0, 0, 0};
     sumacadze_report_t all = {0, 0, 0, 0};
     while (h->steps < (said ? ceiling : 10000) && !all.number) {
-        sumacadze_report_t r = step(core, queue, limit, h);
+        sumacadze_report_t r = step(core, queue, slots, h);
         all.number = r.number;
         all.value = r.value;
         all.writes += r.writes;
@@ -228,19 +236,19 @@ sumacadze_report_t plain_run(uint64_t *core, size_t m, uint64_t *queue, size_t l
     return all;
 }
 
-sumacadze_header_t plain_fresh(sumacadze_rules_t rules, uint64_t *core, uint64_t *queue, uint32_t limit) {
+sumacadze_header_t plain_fresh(sumacadze_rules_t rules, uint64_t *core, uint64_t *queue, uint32_t slots) {
     sumacadze_header_t h;
     memset(&h, 0, sizeof h);
     h.rules = rules;
     for (uint32_t i = 0; i < rules.size; i++)
         core[i] = (uint64_t)4 << 38 | (uint64_t)1 << 35 | (uint64_t)1 << 32;
-    memset(queue, 0, limit * sizeof *queue);
+    memset(queue, 0, slots * sizeof *queue);
     return h;
 }
 
-void plain_start(uint64_t *queue, uint32_t limit, sumacadze_header_t *h, const char *name, uint32_t place) {
+void plain_start(uint64_t *queue, uint32_t slots, sumacadze_header_t *h, const char *name, uint32_t place) {
     uint32_t k = h->names.held++;
     h->names.lengths[k] = (uint8_t)strlen(name);
     memcpy(h->names.bytes + 32 * k, name, h->names.lengths[k]);
-    push(queue, limit, h, place, h->threads[k]++, k);
+    push(queue, slots, h, place, h->threads[k]++, k);
 }

@@ -43,7 +43,7 @@ void Exit(int code) { exit(code); }
 
 void pmars_set(const battle *b) {
     INITIALINST = cell_of((line){0, 0, 4, 1, 1, 0, 0});
-    coreSize = M, taskNum = LIMIT, rounds = 1, warriors = b->names;
+    coreSize = M, taskNum = PROCESSES, rounds = 1, warriors = b->names;
     separation = APART, SWITCH_F = b->apart ? b->apart : APART;
     for (int k = 0; k < b->names; k++)
         set_warrior(b, k);

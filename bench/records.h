@@ -6,8 +6,8 @@
 #include "plain.h"
 
 typedef struct {
-    uint32_t size, limit;
-    uint64_t core[M], queue[LIMIT];
+    uint32_t size, slots;
+    uint64_t core[M], queue[SLOTS];
     sumacadze_header_t header;
 } record;
 

@@ -26,11 +26,11 @@ extern "C" {
 enum {
     SUMACADZE_DONE = 0,
     SUMACADZE_INVALID_CORE_SIZE = 1,
-    SUMACADZE_INVALID_MEMORY = 2,
+    SUMACADZE_INVALID_MEMORY = 2, /* a memory's length, or a process limit out of its range or too large for the queue memory */
     SUMACADZE_WARRIOR_TOO_LONG = 3,
     SUMACADZE_INVALID_CODE = 4, /* the lowest index of a faulty instruction */
     SUMACADZE_INVALID_NAME_OR_PLACE = 5,
-    SUMACADZE_NO_ROOM = 6,
+    SUMACADZE_NO_ROOM = 6, /* the name holds as many entries as the process limit allows, or is a seventeenth */
     SUMACADZE_NO_REMAINING_PROCESSES = 7,
     SUMACADZE_NUMBERS_EXHAUSTED = 8,
     SUMACADZE_UNSOUND_RECORD = 9,
@@ -43,10 +43,12 @@ enum {
 
 enum { SUMACADZE_NAMES = 16, SUMACADZE_NAME_BYTES = 32, SUMACADZE_NO_ORIGIN = 65535 };
 
-/* What a fresh machine is given and no call changes: the core's size, and how far a process reads and writes from its own
- * place. Each limit divides the size; a machine without limits has the size for both (sumacadze_rules_of_size). */
+/* What a fresh machine is given and no call changes: the core's size; how far a process reads and writes from its own
+ * place; and the process limit P, how many entries of the queue each name may hold. The read and the write limit each divide
+ * the size; a machine without them has the size for both (sumacadze_rules_of_size). P is 1 to 4,095, and the queue memory
+ * has 16 times P entries or more, so that there is room for sixteen names with P entries each. */
 typedef struct {
-    uint32_t size, read, write;
+    uint32_t size, read, write, processes;
 } sumacadze_rules_t;
 
 /* Where the ring of queued processes begins, and how many entries it has. */
@@ -107,17 +109,19 @@ typedef struct {
     uint32_t place;
 } sumacadze_line_t;
 
-/* The rules of a core of that size, without limits. */
-static inline sumacadze_rules_t sumacadze_rules_of_size(uint32_t size) {
-    sumacadze_rules_t rules = {size, size, size};
+/* The rules of a core of that size and a process limit, without a read and a write limit. */
+static inline sumacadze_rules_t sumacadze_rules_of_size(uint32_t size, uint32_t processes) {
+    sumacadze_rules_t rules = {size, size, size, processes};
     return rules;
 }
 
-/* A fresh machine of these rules: fresh cells in the core memory, zeros in the queue memory, and its header. */
+/* A fresh machine of these rules: fresh cells in the core memory, zeros in the queue memory, which has 1 to 65,535 entries,
+ * and its header. A refusal gives a header of zeros. */
 sumacadze_fresh_t sumacadze_fresh(sumacadze_rules_t rules, uint64_t *core, size_t core_length, uint64_t *queue,
                                   size_t queue_length);
 
-/* Loads a warrior: its body at a place, a process at the origin (SUMACADZE_NO_ORIGIN is 0). An empty name is Warrior0. */
+/* Loads a warrior: its body at a place, a process at the origin (SUMACADZE_NO_ORIGIN is 0). An empty name is Warrior0.
+ * Warriors of one name share its process limit. */
 sumacadze_report_t sumacadze_load(uint64_t *core, size_t core_length, uint64_t *queue, size_t queue_length,
                                   sumacadze_header_t *header, const uint8_t *name, size_t name_length,
                                   const uint8_t *body, size_t body_length, uint16_t origin, uint32_t place);
@@ -127,7 +131,7 @@ sumacadze_report_t sumacadze_load(uint64_t *core, size_t core_length, uint64_t *
 sumacadze_loads_t sumacadze_load_match(uint64_t *core, size_t core_length, uint64_t *queue, size_t queue_length,
                                        sumacadze_header_t header, const uint8_t *file, size_t file_length);
 
-/* Executes one instruction of the process at the front. */
+/* Executes one instruction of the process at the front. SPL's child is dropped if its name held P entries before the step. */
 sumacadze_report_t sumacadze_step(uint64_t *core, size_t core_length, uint64_t *queue, size_t queue_length,
                                   sumacadze_header_t *header);
 
@@ -153,12 +157,13 @@ sumacadze_line_t sumacadze_read_line(const uint8_t *file, size_t file_length, si
 #endif
 
 /* The layout that the library has. */
-SUMACADZE_ASSERT(sizeof(sumacadze_rules_t) == 12 && offsetof(sumacadze_rules_t, read) == 4);
-SUMACADZE_ASSERT(sizeof(sumacadze_header_t) == 684 && offsetof(sumacadze_header_t, ring) == 12);
-SUMACADZE_ASSERT(offsetof(sumacadze_header_t, steps) == 20 && offsetof(sumacadze_header_t, names) == 24);
+SUMACADZE_ASSERT(sizeof(sumacadze_rules_t) == 16 && offsetof(sumacadze_rules_t, read) == 4);
+SUMACADZE_ASSERT(offsetof(sumacadze_rules_t, write) == 8 && offsetof(sumacadze_rules_t, processes) == 12);
+SUMACADZE_ASSERT(sizeof(sumacadze_header_t) == 688 && offsetof(sumacadze_header_t, ring) == 16);
+SUMACADZE_ASSERT(offsetof(sumacadze_header_t, steps) == 24 && offsetof(sumacadze_header_t, names) == 28);
 SUMACADZE_ASSERT(offsetof(sumacadze_roster_t, bytes) == 4 && offsetof(sumacadze_roster_t, lengths) == 516);
-SUMACADZE_ASSERT(offsetof(sumacadze_header_t, counts) == 556 && offsetof(sumacadze_header_t, threads) == 620);
-SUMACADZE_ASSERT(sizeof(sumacadze_fresh_t) == 688 && offsetof(sumacadze_fresh_t, header) == 4);
+SUMACADZE_ASSERT(offsetof(sumacadze_header_t, counts) == 560 && offsetof(sumacadze_header_t, threads) == 624);
+SUMACADZE_ASSERT(sizeof(sumacadze_fresh_t) == 692 && offsetof(sumacadze_fresh_t, header) == 4);
 SUMACADZE_ASSERT(sizeof(sumacadze_report_t) == 32 && sizeof(sumacadze_reading_t) == 16);
 SUMACADZE_ASSERT(sizeof(sumacadze_loads_t) == 728 && offsetof(sumacadze_loads_t, warrior) == 32);
 SUMACADZE_ASSERT(offsetof(sumacadze_loads_t, header) == 40);

@@ -1,7 +1,7 @@
 #!/bin/sh
 # Builds the static library and both examples over it, and compares what they print: with bin/play for every file in examples/ and for a few bad ones, and with what the program plays must write for each of its files.
 # Then loads 2,000 matches, damaged ones among them, each in one call, and compares every byte with a model and with the loads made one by one (tools/match_load).
-# Then makes 2,000 calls of fresh, step and run with read and write limits, damaged records among them, and compares every byte with a model (tools/limits).
+# Then makes 2,000 calls of fresh, step and run with read, write and process limits, damaged records among them, and compares every byte with a model (tools/limits).
 # Then loads an instruction without a modifier for each opcode, A mode and B mode byte, and compares it with a model (tools/defaults).
 # Run as: tests/library.sh. Needs rt, gcc, g++, cargo and python3; no network.
 root=$(dirname -- "$(dirname -- "$(readlink -f -- "$0")")")

@@ -3,7 +3,8 @@
 #include "sumacadze.h"
 #include <stdio.h>
 
-enum { LARGEST_FILE = 32768, LARGEST_SIZE = 8000, QUEUE = 2000 };
+// Each of the sixteen names that a match may have holds at most 125 of the 2,000 entries.
+enum { LARGEST_FILE = 32768, LARGEST_SIZE = 8000, PROCESSES = 125, QUEUE = 2000 };
 
 static uint8_t file[LARGEST_FILE + 1];
 static uint64_t core[LARGEST_SIZE], queue[QUEUE];
@@ -42,7 +43,8 @@ int main(int words, char **word) {
     uint32_t size = contents.size;
     if (size > LARGEST_SIZE)
         return refused(SUMACADZE_INVALID_CORE_SIZE, 0);
-    sumacadze_fresh_t machine = sumacadze_fresh(sumacadze_rules_of_size(size), core, size, queue, QUEUE);
+    sumacadze_rules_t rules = sumacadze_rules_of_size(size, PROCESSES);
+    sumacadze_fresh_t machine = sumacadze_fresh(rules, core, size, queue, QUEUE);
     if (machine.number)
         return refused(machine.number, 0);
     sumacadze_loads_t loads = sumacadze_load_match(core, size, queue, QUEUE, machine.header, file, length);

@@ -5,11 +5,13 @@
 pub enum Answer {
     Done,
     InvalidCoreSize,
+    /// A memory's length, or a process limit out of its range or too large for the queue memory.
     InvalidMemory,
     WarriorTooLong,
     /// The lowest index of a faulty instruction.
     InvalidCode(usize),
     InvalidNameOrPlace,
+    /// The name holds as many entries as the process limit allows, or is a seventeenth.
     NoRoom,
     NoRemainingProcesses,
     NumbersExhausted,

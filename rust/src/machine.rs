@@ -5,23 +5,28 @@ use std::fmt;
 /// The origin of a warrior that has none, meaning 0.
 pub const NO_ORIGIN: u16 = 65535;
 
-/// What a fresh machine is given and no call changes: the core's size, and how far a process reads and writes from its own
-/// place. Each limit divides the size; a machine without limits has the size for both ([`Rules::of_size`]).
+/// What a fresh machine is given and no call changes: the core's size; how far a process reads and writes from its own
+/// place; and the process limit P, how many entries of the queue each name may hold. The read and the write limit each divide
+/// the size; a machine without them has the size for both ([`Rules::of_size`]). P is 1 to 4,095, and the queue memory has
+/// 16 times P entries or more, so that there is room for sixteen names with P entries each.
 #[repr(C)]
 #[derive(Clone, Copy, Debug, PartialEq, Eq)]
 pub struct Rules {
     pub size: u32,
     pub read: u32,
     pub write: u32,
+    /// P.
+    pub processes: u32,
 }
 
 impl Rules {
-    /// The rules of a core of that size, without limits.
-    pub fn of_size(size: u32) -> Rules {
+    /// The rules of a core of that size and a process limit, without a read and a write limit.
+    pub fn of_size(size: u32, processes: u32) -> Rules {
         Rules {
             size,
             read: size,
             write: size,
+            processes,
         }
     }
 }
@@ -135,7 +140,7 @@ fn span(pointer: *mut u64, length: usize) -> Result<(usize, usize), NotLent> {
 }
 
 impl<'a> Machine<'a> {
-    /// A fresh machine: fresh cells, zeros in the queue memory.
+    /// A fresh machine: fresh cells, zeros in the queue memory, which has 1 to 65,535 entries.
     pub fn fresh(
         rules: Rules,
         core: &'a mut [u64],
@@ -198,7 +203,7 @@ impl<'a> Machine<'a> {
         })
     }
 
-    /// Loads a warrior; an empty name is Warrior0.
+    /// Loads a warrior; an empty name is Warrior0. Warriors of one name share its process limit.
     pub fn load(&mut self, name: &[u8], body: &[u8], origin: u16, place: u32) -> Report {
         // SAFETY: the memories and the header are exclusive here, and no slice is null.
         report(unsafe {
@@ -239,7 +244,7 @@ impl<'a> Machine<'a> {
         }
     }
 
-    /// Executes one instruction of the process at the front.
+    /// Executes one instruction of the process at the front. SPL's child is dropped if its name held P entries before the step.
     pub fn step(&mut self) -> Report {
         // SAFETY: as for load.
         report(unsafe {

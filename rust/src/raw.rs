@@ -55,12 +55,13 @@ pub struct Line {
 }
 
 // The layout that the library has.
-const _: () = assert!(size_of::<Rules>() == 12 && offset_of!(Rules, read) == 4);
-const _: () = assert!(size_of::<Header>() == 684 && offset_of!(Header, ring) == 12);
-const _: () = assert!(offset_of!(Header, steps) == 20 && offset_of!(Header, names) == 24);
+const _: () = assert!(size_of::<Rules>() == 16 && offset_of!(Rules, read) == 4);
+const _: () = assert!(offset_of!(Rules, write) == 8 && offset_of!(Rules, processes) == 12);
+const _: () = assert!(size_of::<Header>() == 688 && offset_of!(Header, ring) == 16);
+const _: () = assert!(offset_of!(Header, steps) == 24 && offset_of!(Header, names) == 28);
 const _: () = assert!(offset_of!(Roster, bytes) == 4 && offset_of!(Roster, lengths) == 516);
-const _: () = assert!(offset_of!(Header, counts) == 556 && offset_of!(Header, threads) == 620);
-const _: () = assert!(size_of::<Fresh>() == 688 && offset_of!(Fresh, header) == 4);
+const _: () = assert!(offset_of!(Header, counts) == 560 && offset_of!(Header, threads) == 624);
+const _: () = assert!(size_of::<Fresh>() == 692 && offset_of!(Fresh, header) == 4);
 const _: () = assert!(size_of::<Report>() == 32 && size_of::<Reading>() == 16);
 const _: () = assert!(size_of::<Loads>() == 728 && offset_of!(Loads, warrior) == 32);
 const _: () = assert!(offset_of!(Loads, header) == 40);

@@ -5,11 +5,11 @@
 #include <stdio.h>
 #include <string.h>
 
-enum { OPCODES = 19, MODES = 8, BYTES = 256, DEFAULT = 255, NONE = 255 };
+enum { OPCODES = 19, MODES = 8, BYTES = 256, DEFAULT = 255, NONE = 255, ENTRIES = 16 };
 
-// A machine of one cell and one queue slot.
+// A machine of one cell, in which each name may hold one entry.
 typedef struct {
-    uint64_t core[1], queue[1];
+    uint64_t core[1], queue[ENTRIES];
     sumacadze_header_t header;
 } machine;
 
@@ -25,13 +25,13 @@ static uint64_t word(uint64_t opcode, uint64_t modifier, uint64_t a_mode, uint64
 
 static sumacadze_report_t load(machine *m, unsigned opcode, unsigned a_mode, unsigned b_mode) {
     const uint8_t body[12] = {(uint8_t)opcode, DEFAULT, (uint8_t)a_mode, (uint8_t)b_mode};
-    return sumacadze_load(m->core, 1, m->queue, 1, &m->header, (const uint8_t *)"a", 1, body, sizeof body,
+    return sumacadze_load(m->core, 1, m->queue, ENTRIES, &m->header, (const uint8_t *)"a", 1, body, sizeof body,
                           SUMACADZE_NO_ORIGIN, 0);
 }
 
 int main(void) {
     machine fresh;
-    sumacadze_fresh_t made = sumacadze_fresh(sumacadze_rules_of_size(1), fresh.core, 1, fresh.queue, 1);
+    sumacadze_fresh_t made = sumacadze_fresh(sumacadze_rules_of_size(1, 1), fresh.core, 1, fresh.queue, ENTRIES);
     fresh.header = made.header;
     if (made.number || fread(table, 1, sizeof table, stdin) != sizeof table) {
         fputs("no fresh machine, or a table cut short\n", stderr);

@@ -1,13 +1,18 @@
 """Cases for compare.py, a call on a record each: fresh, a step or a run, with limits, unsound cells and damaged headers among them."""
 import random
 
-from cases import damaged, fresh_record, made_record
-from loading import LARGEST_SIZE, LAST_NUMBER, LONGEST_QUEUE, entry, word
+from cases import damage_over, damage_processes, damaged, fresh_record, made_record, queue_rules
+from loading import LARGEST_SIZE, LAST_NUMBER, LONGEST_QUEUE, MOST_PROCESSES, NAMES, entry, word
+from stepping import JMP, SPL
 
 FRESH, STEP, RUN = range(3)
 SIZES = [1, 2, 3, 4, 5, 6, 7, 8, 8, 9, 12, 12, 13, 16, 20, 24, 30, 36, 60]
 LARGE = [8000, LARGEST_SIZE - 1, LARGEST_SIZE]
-QUEUES = [1, 2, 3, 4, 8, 16, 40]
+# P and a number of slots that no fresh machine may have, or only just
+FEW = [(0, 16), (1, 0), (1, 1), (1, 15), (1, 16), (2, 16), (4, 63), (2**28, 16), (2**28 + 1, 32), (LAST_NUMBER, 16)]
+MANY = [(0, NAMES * MOST_PROCESSES), (1, LONGEST_QUEUE), (1, LONGEST_QUEUE + 1), (MOST_PROCESSES, NAMES * MOST_PROCESSES - 1),
+        (MOST_PROCESSES, NAMES * MOST_PROCESSES), (MOST_PROCESSES, LONGEST_QUEUE), (MOST_PROCESSES + 1, LONGEST_QUEUE),
+        (MOST_PROCESSES + 1, LONGEST_QUEUE + 1)]
 
 
 def divisors(size):
@@ -21,14 +26,16 @@ def number(dice, size):
     return dice.choice([0, 1, size - 1, size // 2, dice.randrange(size), dice.randrange(size)]) % size
 
 
-def cell(dice, size):
+def cell(dice, size, opcodes=range(17)):
     """A sound cell; LDP and STP are rare."""
-    opcode = dice.randrange(17) if dice.random() < 0.99 else dice.randint(17, 18)
+    opcode = dice.choice(opcodes) if dice.random() < 0.99 else dice.randint(17, 18)
     return word(opcode, dice.randrange(7), dice.randrange(8), dice.randrange(8), number(dice, size), number(dice, size))
 
 
 def core(dice, size):
-    """Any sound cells, or few kinds of them, so that comparisons are of like cells too."""
+    """Any sound cells, or few kinds of them, so that comparisons are of like cells too, or such as split."""
+    if dice.random() < 0.2 and size <= 60:
+        return [cell(dice, size, dice.choice([[SPL], [SPL, JMP], range(17)])) for _ in range(size)]
     if size > 60:
         few = [cell(dice, size) for _ in range(30)]
         return [few[i % 30] for i in range(size)]
@@ -37,19 +44,21 @@ def core(dice, size):
 
 
 def fill_queue(dice, record):
-    """Sound entries in the slots taken, of each name as many as its count says."""
+    """Sound entries in the slots taken, of each name as many as its count says, or now and then of any name with a count."""
     names = [i for i in range(record.held) for _ in range(record.counts[i])]
     dice.shuffle(names)
+    if dice.random() < 0.15:
+        names = [dice.choice(names) for _ in names]
     for k, name in enumerate(names, record.head):
         record.queue[k % len(record.queue)] = entry(dice.randrange(record.size), dice.getrandbits(32), name)
 
 
 def random_record(dice):
     size = dice.choice(LARGE if dice.random() < 0.003 else SIZES)
-    limit = dice.choice([2000, LONGEST_QUEUE]) if dice.random() < 0.0005 else dice.choice(QUEUES)
-    record = made_record(dice, size, limit)
-    while record.length == 0 and dice.random() < 0.97:
-        record = made_record(dice, size, limit)
+    processes, slots = queue_rules(dice, 0.001)
+    record = made_record(dice, size, processes, slots)
+    while record.length == 0 and dice.random() < 0.9:
+        record = made_record(dice, size, processes, slots)
     if dice.random() < 0.7:
         record.threads = [dice.randrange(9) for _ in record.threads]
     record.read, record.write = dice.choice(DIVISORS[size]), dice.choice(DIVISORS[size])
@@ -92,34 +101,36 @@ def damage_limits(dice, record):
         record.write = faulty_limit(dice, record.size)
 
 
-def fresh_case(dice):
+def fresh_case(dice, processes, slots):
     """Rules over memories of any content; half of them with something that is refused."""
     size = dice.choice(SIZES)
-    record = fresh_record(size, dice.choice(QUEUES))
+    record = fresh_record(size, processes, slots)
     record.core, record.queue = ([dice.getrandbits(64) for _ in memory] for memory in (record.core, record.queue))
     record.read, record.write = dice.choice(DIVISORS[size]), dice.choice(DIVISORS[size])
     if dice.random() < 0.3:
         damage_limits(dice, record)
     if dice.random() < 0.15:
         record.size = dice.choice([0, size - 1, size + 1, LARGEST_SIZE, LARGEST_SIZE + 1, LAST_NUMBER])
-    if dice.random() < 0.05:
-        record.queue = dice.choice([[], [1] * (LONGEST_QUEUE + 1)])
     return FRESH, None, record
 
 
 def random_case(dice):
     """A call, its ceiling (None where none is said) and a record."""
     if dice.random() < 0.1:
-        return fresh_case(dice)
+        return fresh_case(dice, *(dice.choice(FEW) if dice.random() < 0.3 else queue_rules(dice, 0)))
     record = random_record(dice)
     chance = dice.random()
-    if chance < 0.2:
+    if chance < 0.18:
         damage_cell(dice, record)
-    elif chance < 0.25:
+    elif chance < 0.23:
         damage_front(dice, record)
-    elif chance < 0.32:
+    elif chance < 0.28:
         damage_limits(dice, record)
-    elif chance < 0.4:
+    elif chance < 0.32:
+        damage_processes(dice, record)
+    elif chance < 0.34:
+        damage_over(dice, record)
+    elif chance < 0.41:
         record = damaged(dice, record)
     if dice.random() < 0.75:
         return STEP, None, record
@@ -129,7 +140,9 @@ def random_case(dice):
 
 
 def cases(seed):
-    """Cases without end."""
+    """Cases without end, the first of them fresh machines."""
     dice = random.Random(seed)
+    for rules in FEW + MANY:
+        yield fresh_case(dice, *rules)
     while True:
         yield random_case(dice)

@@ -1,8 +1,11 @@
-"""Fresh, step and run with read and write limits, on a whole record: written from the papers, apart from the definitions and the code.
+"""Fresh, step and run with all limits, on a whole record: written from the papers, apart from the definitions and the code.
 
-Document 01 has the machine, request A.2 of document 02 the limits. The record and its soundness are those of tools/match_load.
+Document 01 has the machine; of document 02 request A.2 has the read and the write limit, A.4 the process limit. The record and its
+soundness are those of tools/match_load.
 """
-from loading import FRESH_CELL, LARGEST_SIZE, LAST_NUMBER, LONGEST_QUEUE, Record, divides, entry, word
+import collections
+
+from loading import FRESH_CELL, LAST_NUMBER, Record, entry, word
 from model import Refused
 
 DAT, MOV, ADD, SUB, MUL, DIV, MOD, JMP, JMZ, JMN, DJN, CMP, SEQ, SNE, SLT, SPL, NOP, LDP, STP = range(19)
@@ -16,6 +19,8 @@ AFTER = [0, 0, 0, 0, 0, 0, 1, 1]
 # by modifier: a's field, and b's, which is the target's
 PAIRS = [[(A, A)], [(B, B)], [(A, B)], [(B, A)], [(A, A), (B, B)], [(B, A), (A, B)], [(A, A), (B, B)]]
 NO_CEILING = 10000
+# SPL's children so far, for compare.py: whether one was queued, and what else was so (see push_child)
+CHILDREN = collections.Counter()
 
 
 class Cell:
@@ -136,18 +141,19 @@ def value(opcode, a, b):
 
 
 def fresh_number(record):
-    if not 1 <= record.size <= LARGEST_SIZE:
+    faults = record.faults()
+    if "M" in faults:
         return 1
-    if len(record.core) != record.size or not 1 <= len(record.queue) <= LONGEST_QUEUE:
+    if {"core", "queue", "P"} & set(faults):
         return 2
-    return 0 if divides(record.read, record.size) and divides(record.write, record.size) else 14
+    return 14 if "limits" in faults else 0
 
 
 def fresh(record):
     """Number, value, writes and steps; of the record the memories and the rules count. A refusal leaves the memories, and gives a header of zeros."""
     number, made = fresh_number(record), Record(record.core, record.queue)
     if number == 0:
-        made.size, made.read, made.write = record.size, record.read, record.write
+        made.size, made.read, made.write, made.processes = record.size, record.read, record.write, record.processes
         made.core, made.queue = [FRESH_CELL] * record.size, [0] * len(record.queue)
     vars(record).update(vars(made))
     return number, 0, 0, 0
@@ -172,6 +178,19 @@ def push(record, place, thread, name):
     record.counts[name] += 1
 
 
+def push_child(record, place, name):
+    """A child is dropped where its name holds P entries, and then no thread number is used."""
+    others = [count for at, count in enumerate(record.counts[:record.held]) if at != name]
+    queued = record.counts[name] < record.processes
+    CHILDREN[queued] += 1
+    CHILDREN[queued, "another name held P"] += record.processes in others
+    CHILDREN[queued, "another name held fewer"] += any(count < record.processes for count in others)
+    CHILDREN[queued, "the ring was full"] += record.length == len(record.queue)
+    if queued:
+        push(record, place, record.threads[name], name)
+        record.threads[name] += 1
+
+
 def sound_step(record):
     """A step past the test of the header."""
     try:
@@ -188,9 +207,8 @@ def sound_step(record):
     record.steps += 1
     for at in done.next[:1]:
         push(record, at, thread, name)
-    if done.next[1:] and record.length < len(record.queue):
-        push(record, done.next[1], record.threads[name], name)
-        record.threads[name] += 1
+    for at in done.next[1:]:
+        push_child(record, at, name)
     number = done.ended if done.ended and record.counts[name] == 0 else (0, 0)
     return *number, done.writes, 1
 

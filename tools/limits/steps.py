@@ -26,13 +26,13 @@ def unpacked(bits):
 
 def played(core, pc, read, write):
     """The core and the places queued after the step that 02 describes."""
-    record = fresh_record(len(core), 2)
+    record = fresh_record(len(core), 8)
     record.core = [word(c) for c in core]
     record.read, record.write = read, write
     record.name(0, b"A")
     record.queue[0], record.held, record.length, record.counts[0] = entry(pc, 0, 0), 1, 1, 1
     step(record)
-    slots = [record.queue[(record.head + k) % 2] & 65535 for k in range(record.length)]
+    slots = [record.queue[(record.head + k) % len(record.queue)] & 65535 for k in range(record.length)]
     return [unpacked(bits) for bits in record.core], slots
 
 

@@ -1,11 +1,15 @@
-"""Cases for compare.py, a record and a match file each: a file cut at each length and changed in each byte, then random ones."""
+"""Cases for compare.py, a record and a match file each: a file cut at each length and changed in each byte, large queues, then random ones."""
+import contextlib
 import random
 import struct
 
-from loading import FRESH_CELL, LARGEST_SIZE, LAST_NUMBER, LONGEST_QUEUE, NAMES, NAME_BYTES, NO_ORIGIN, Record, entry, word
-from model import Machine
+from loading import FRESH_CELL, LARGEST_SIZE, LAST_NUMBER, LONGEST_QUEUE, MOST_PROCESSES, NAMES, NAME_BYTES, NO_ORIGIN, Record, entry, word
+from model import Machine, Refused
 
 LINE = 43
+# values of P, and a P with the number of slots of a large queue memory
+PROCESSES = [1, 1, 2, 2, 3, 4, 5, 8, 16]
+LARGE = [(125, 2000), (1, LONGEST_QUEUE), (1, LONGEST_QUEUE + 1), (MOST_PROCESSES, LONGEST_QUEUE), (MOST_PROCESSES, NAMES * MOST_PROCESSES)]
 NUMBERS = [0, 0, 1, 1, -1, 2, -2, 7, 9, 100, -100, 65535, 65536, 2**31 - 1, -(2**31)]
 # names that the files and the records have in common, the empty one among them
 POOL = [b"", b"", b"Warrior0", b"A", b"B", b"A1", b"!", b"~" * NAME_BYTES, b"N" * 31, b"N" * 31 + b"M", b"warrior-10", b"warrior-11"]
@@ -22,10 +26,20 @@ def made(size, warriors):
     return struct.pack("<BHB", len(warriors), size, 0) + lines + b"".join(body for _, body, _, _ in warriors)
 
 
-def fresh_record(size, limit):
-    record = Record([FRESH_CELL] * size, [0] * limit)
+def fresh_record(size, processes, slots=None):
+    """A fresh machine without a read and a write limit, with as few slots in the queue memory as P needs where their number is not said."""
+    record = Record([FRESH_CELL] * size, [0] * (NAMES * processes if slots is None else slots))
     record.size = record.read = record.write = size
+    record.processes = processes
     return record
+
+
+def queue_rules(dice, large):
+    """P and a number of slots, as few as it needs or some more; the chance of a large queue memory is given."""
+    if dice.random() < large:
+        return dice.choice(LARGE)
+    processes = dice.choice(PROCESSES)
+    return processes, NAMES * processes + dice.choice([0, 0, 0, 1, 5, 15, 16])
 
 
 def instruction(dice, opcodes=19):
@@ -101,33 +115,41 @@ def changed(dice, file, at):
     return file[:at] + bytes([byte]) + file[at + 1:]
 
 
-def played_record(dice, size, limit):
+def played_record(dice, size, processes, slots):
     """A machine with warriors loaded and stepped by the model of tools/matches; slots not taken hold anything."""
-    machine = Machine(size, limit)
-    for _ in range(dice.randint(1, min(limit, 4))):
+    machine = Machine(size, processes)
+    for _ in range(dice.randint(1, 4)):
         codes = b"".join(instruction(dice, 17) for _ in range(dice.randint(1, min(size, 5))))
-        machine.load(dice.choice(POOL), codes, dice.choice([NO_ORIGIN, 0, 1]), dice.randrange(size))
+        with contextlib.suppress(Refused):
+            machine.load(dice.choice(POOL), codes, dice.choice([NO_ORIGIN, 0, 1]), dice.randrange(size))
     for _ in range(dice.randint(0, 30)):
         machine.step()
-    record = fresh_record(size, limit)
+    record = fresh_record(size, processes, slots)
     record.core = [word(opcode, modifier, *modes, *numbers) for opcode, modifier, modes, numbers in machine.core]
-    record.queue = [dice.getrandbits(64) for _ in range(limit)]
-    record.steps, record.head = machine.steps, machine.steps % limit
+    record.queue = [dice.getrandbits(64) for _ in range(slots)]
+    record.steps, record.head = machine.steps, machine.steps % slots
     record.length, record.held = len(machine.queue), len(machine.counts)
     names = list(machine.counts)
     for i, name in enumerate(names):
         record.name(i, name.encode())
         record.counts[i], record.threads[i] = machine.counts[name], machine.threads[name]
     for k, (place, thread, name) in enumerate(machine.queue, record.head):
-        record.queue[k % limit] = entry(place, thread, names.index(name))
+        record.queue[k % slots] = entry(place, thread, names.index(name))
     return record
 
 
-def made_record(dice, size, limit):
+def held_counts(dice, held, processes):
+    """The counts of the names: all P, more often where all sixteen are held, or each up to P and near it as often as not."""
+    if dice.random() < (0.5 if held == NAMES else 0.15):
+        return [processes] * held
+    return [dice.choice([0, 1, processes - 1, processes, processes, dice.randint(0, processes)]) for _ in range(held)]
+
+
+def made_record(dice, size, processes, slots):
     """A sound header over any memory: names up to the sixteenth, counters near their end, slots without a name that hold anything."""
-    record = fresh_record(size, limit)
+    record = fresh_record(size, processes, slots)
     record.core = [dice.getrandbits(64) for _ in range(size)] if size <= 60 else record.core
-    record.queue = [dice.getrandbits(64) for _ in range(limit)] if limit <= 60 else record.queue
+    record.queue = [dice.getrandbits(64) for _ in range(slots)] if slots <= 400 else record.queue
     record.held = dice.choice([0, 1, 2, 5, 14, 15, 15, 16, 16])
     for i in range(record.held, NAMES):
         record.name(i, bytes(dice.randrange(256) for _ in range(NAME_BYTES)))
@@ -139,10 +161,9 @@ def made_record(dice, size, limit):
     for i in range(record.held):
         record.name(i, names[i])
         record.threads[i] = LAST_NUMBER - dice.randrange(3) if dice.random() < 0.3 else dice.randrange(9)
-    record.length = dice.choice([0, limit // 2, max(limit - 3, 0), limit - 1, limit]) if record.held else 0
-    for _ in range(record.length):
-        record.counts[dice.randrange(record.held)] += 1
-    record.head, record.steps = dice.choice([0, limit - 1, dice.randrange(limit)]), dice.choice([0, 7, LAST_NUMBER])
+    record.counts[:record.held] = held_counts(dice, record.held, processes)
+    record.length = sum(record.counts[:record.held])
+    record.head, record.steps = dice.choice([0, slots - 1, dice.randrange(slots)]), dice.choice([0, 7, LAST_NUMBER])
     return record
 
 
@@ -160,18 +181,35 @@ def damage_name(dice, record):
         record.lengths[i] = record.lengths[other]
 
 
+def damage_over(dice, record):
+    """A count over P, and the length with it."""
+    if record.held:
+        one = dice.randrange(record.held)
+        over = record.processes + dice.choice([1, 1, 2, record.processes])
+        record.length += over - record.counts[one]
+        record.counts[one] = over
+
+
 def damage_counts(dice, record):
-    """One count changed, two whose sum stays, or two whose sum is the same only in 32 bits."""
+    """One count changed, two whose sum stays, two whose sum is the same only in 32 bits, or one that is over P."""
     one, other, half = dice.randrange(NAMES), dice.randrange(NAMES), 2**31
-    kind = dice.randrange(3)
+    kind = dice.randrange(5)
     if kind == 0:
         record.counts[one] = dice.choice([0, record.counts[one] ^ 1, half, LAST_NUMBER])
     elif kind == 1 and record.counts[one]:
         record.counts[one] -= 1
         record.counts[other] = (record.counts[other] + 1) % 2**32
-    elif one != other and max(record.counts[one], record.counts[other]) < half:
+    elif kind == 2 and one != other and max(record.counts[one], record.counts[other]) < half:
         record.counts[one] += half
         record.counts[other] += half
+    elif kind > 2:
+        damage_over(dice, record)
+
+
+def damage_processes(dice, record):
+    """A P that is out of its range, too large for the queue memory, or below a count; and others that are none of these."""
+    most, largest = len(record.queue) // NAMES, max(record.counts[:record.held], default=0)
+    record.processes = dice.choice([0, most + 1, most + 1, largest - 1, largest, most, 1, MOST_PROCESSES, MOST_PROCESSES + 1, 2**28, LAST_NUMBER]) % 2**32
 
 
 def damage_limit(dice, record):
@@ -185,15 +223,15 @@ def damage_limit(dice, record):
 
 def damaged(dice, record):
     """The record with one field of its header, one bit of it or a memory's length changed; some of these are sound."""
-    limit = len(record.queue)
-    kind = dice.randrange(11)
+    slots = len(record.queue)
+    kind = dice.randrange(13)
     if kind == 0:
         record.size = dice.choice([0, record.size - 1, record.size + 1, LARGEST_SIZE, LARGEST_SIZE + 1, LAST_NUMBER])
     elif kind == 1:
-        record.head = dice.choice([0, limit - 1, limit, limit + 1, LAST_NUMBER])
+        record.head = dice.choice([0, slots - 1, slots, slots + 1, LAST_NUMBER])
     elif kind == 2:
         before = record.length
-        record.length = dice.choice([0, before + 1, limit, limit + 1, LAST_NUMBER])
+        record.length = dice.choice([0, before + 1, slots, slots + 1, LAST_NUMBER])
         if dice.random() < 0.5:
             record.counts[0] = (record.counts[0] + record.length - before) % 2**32
     elif kind == 3:
@@ -215,21 +253,18 @@ def damaged(dice, record):
         record.queue = dice.choice([record.queue, record.queue[1:], [], record.queue + [0]])
     elif kind == 10:
         damage_limit(dice, record)
+    else:
+        damage_processes(dice, record)
     return record
 
 
 def random_record(dice):
-    size = dice.choice([1, 2, 3, 5, 8, 8, 13, 40, 60])
-    limit = dice.choice([1, 3, 4, 8, 16, 17, 20, 40, 60])
-    chance = dice.random()
-    if chance < 0.002:
-        size = dice.choice([8000, LARGEST_SIZE])
-    elif chance < 0.004:
-        limit = dice.choice([2000, LONGEST_QUEUE, LONGEST_QUEUE + 1])
+    size = dice.choice([8000, LARGEST_SIZE] if dice.random() < 0.002 else [1, 2, 3, 5, 8, 8, 13, 40, 60])
+    processes, slots = queue_rules(dice, 0.003)
     kind = dice.choice([fresh_record, played_record, made_record, made_record])
     if kind is fresh_record or size > 8000:
-        return fresh_record(size, limit)
-    return kind(dice, size, limit)
+        return fresh_record(size, processes, slots)
+    return kind(dice, size, processes, slots)
 
 
 def random_case(dice):
@@ -250,5 +285,7 @@ def cases(seed):
         yield fresh_record(8, 4), pair[:length]
     for at in range(len(pair)):
         yield fresh_record(8, 4), changed(dice, pair, at)
+    for rules in LARGE:
+        yield fresh_record(8, *rules), pair
     while True:
         yield random_case(dice)

@@ -5,7 +5,8 @@ compare.py PROGRAM [CASES [SEED]]     2000 cases of seed 1 where none are said; 
 
 Compared are number, value, warrior, writes, steps, and the whole header, core and queue afterwards; PROGRAM itself compares each
 call with the loads made one by one on a copy of the record. The first case that differs is shown, and the status is 1. Then how
-often each number was given, and for the numbers of a load at how many different warriors.
+often each number was given, and for the numbers of a load at how many different warriors; how often 6 was given for the process
+limit, and for a seventeenth name; and how many headers had one fault alone.
 """
 import collections
 import itertools
@@ -18,6 +19,7 @@ sys.dont_write_bytecode = True
 sys.path.append(str(pathlib.Path(__file__).resolve().parent.parent / "matches"))
 from cases import cases
 from loading import HEADER, load_match
+from model import read
 
 # so many cases are handed to the program at once
 BATCH = 500
@@ -47,15 +49,40 @@ def show(number, seed, case, wanted, got):
             print(f"model   {model}\nlibrary {library}")
 
 
+class Tally:
+    """What the cases reached."""
+
+    def __init__(self):
+        # numbers by warrior, what 6 was given for, and what headers with one fault had
+        self.numbers, self.six, self.faults = collections.Counter(), collections.Counter(), collections.Counter()
+
+    def add(self, record, file, number, warrior, faults):
+        self.numbers[number, warrior] += 1
+        if number == 6:
+            name = read(file)[1][warrior][0] or b"Warrior0"
+            self.six["the process limit" if name in record.names() else "a seventeenth name"] += 1
+        if len(faults) == 1:
+            self.faults[faults[0]] += 1
+
+    def show(self):
+        for number in sorted({number for number, _ in self.numbers}):
+            at = [warrior for other, warrior in self.numbers if other == number]
+            where = f" at {len(at)} different warriors" if number in LOADS else ""
+            why = "".join(f", {times} for {reason}" for reason, times in sorted(self.six.items())) if number == 6 else ""
+            print(f"{number}: {sum(self.numbers[number, warrior] for warrior in at)}{where}{why}")
+        print("headers with one fault alone:", ", ".join(f"{fault}: {times}" for fault, times in sorted(self.faults.items())))
+
+
 def compare(program, count, seed):
-    """How often each number was given, by warrior; None where a case differs."""
-    counts = collections.Counter()
+    """What the cases reached; None where a case differs."""
+    tally = Tally()
     numbered = enumerate(itertools.islice(cases(seed), count))
     while batch := list(itertools.islice(numbered, BATCH)):
         inputs = [given(*case) for _, case in batch]
         results = subprocess.run([program], input=b"".join(inputs), stdout=subprocess.PIPE, check=True).stdout
         at = 0
         for (number, (record, file)), case in zip(batch, inputs):
+            faults = record.faults()
             told = load_match(record, file)
             wanted = TOLD.pack(*told) + record.header() + record.memories() + b"\1"
             got = results[at:at + len(wanted)]
@@ -63,19 +90,16 @@ def compare(program, count, seed):
             if got != wanted:
                 show(number, seed, case, wanted, got)
                 return None
-            counts[told[0], told[2]] += 1
-    return counts
+            tally.add(record, file, told[0], told[2], faults)
+    return tally
 
 
 def main(program, count="2000", seed="1"):
-    counts = compare(program, int(count), int(seed))
-    if counts is None:
+    tally = compare(program, int(count), int(seed))
+    if tally is None:
         return 1
     print(f"{count} matches loaded in one call: as in the model, and as one by one. Numbers given:")
-    for number in sorted({number for number, _ in counts}):
-        at = [warrior for other, warrior in counts if other == number]
-        where = f" at {len(at)} different warriors" if number in LOADS else ""
-        print(f"{number}: {sum(counts[number, warrior] for warrior in at)}{where}")
+    tally.show()
     return 0
 
 

@@ -1,6 +1,7 @@
 """A match loaded in one call, on a whole record: written from the papers, apart from the definitions and the code.
 
-Document 01 has the sound header, the load of a warrior and the match file; request A.1 of document 02 has the call, A.2 the limits.
+Document 01 has the sound header, the load of a warrior and the match file; of document 02 request A.1 has the call, A.2 the read and the
+write limit, A.4 the process limit.
 """
 import struct
 
@@ -8,9 +9,10 @@ from model import Refused, default, read
 
 NAMES, NAME_BYTES = 16, 32
 LARGEST_SIZE, LONGEST_QUEUE = 46341, 65535
+MOST_PROCESSES = 4095
 LAST_NUMBER = 4294967295
 NO_ORIGIN = 65535
-HEADER = struct.Struct(f"<7I{NAMES * NAME_BYTES}s{NAMES}s{NAMES}I{NAMES}I")
+HEADER = struct.Struct(f"<8I{NAMES * NAME_BYTES}s{NAMES}s{NAMES}I{NAMES}I")
 
 
 def word(opcode, modifier, a_mode, b_mode, a, b):
@@ -46,13 +48,13 @@ class Record:
     def __init__(self, core, queue, header=bytes(HEADER.size)):
         self.core, self.queue = core, queue
         *first, names, lengths = HEADER.unpack(header)[:-2 * NAMES]
-        self.size, self.read, self.write, self.head, self.length, self.steps, self.held = first
+        self.size, self.read, self.write, self.processes, self.head, self.length, self.steps, self.held = first
         self.bytes, self.lengths = bytearray(names), bytearray(lengths)
         numbers = list(HEADER.unpack(header)[-2 * NAMES:])
         self.counts, self.threads = numbers[:NAMES], numbers[NAMES:]
 
     def header(self):
-        first = self.size, self.read, self.write, self.head, self.length, self.steps, self.held
+        first = self.size, self.read, self.write, self.processes, self.head, self.length, self.steps, self.held
         return HEADER.pack(*first, bytes(self.bytes), bytes(self.lengths), *self.counts, *self.threads)
 
     def memories(self):
@@ -66,18 +68,31 @@ class Record:
         self.bytes[NAME_BYTES * i:NAME_BYTES * (i + 1)] = name.ljust(NAME_BYTES, b"\0")
         self.lengths[i] = len(name)
 
-    def sound(self):
-        if not 1 <= self.size <= LARGEST_SIZE or self.size != len(self.core) or not 1 <= len(self.queue) <= LONGEST_QUEUE:
-            return False
-        if not divides(self.read, self.size) or not divides(self.write, self.size):
-            return False
-        if self.length > len(self.queue) or self.head >= len(self.queue) or self.held > NAMES:
-            return False
-        if not all(1 <= length <= NAME_BYTES for length in self.lengths[:self.held]):
+    def sound_names(self):
+        """At most 16 names, each valid, not empty and unlike the others."""
+        if self.held > NAMES or not all(1 <= length <= NAME_BYTES for length in self.lengths[:self.held]):
             return False
         names = self.names()
-        valid = all(33 <= byte <= 126 for name in names for byte in name)
-        return valid and len(set(names)) == self.held and sum(self.counts[:self.held]) == self.length
+        return all(33 <= byte <= 126 for name in names for byte in name) and len(set(names)) == self.held
+
+    def faults(self):
+        """What is unsound in the header, a word for each test."""
+        slots, counts = len(self.queue), self.counts[:self.held]
+        tests = {
+            "M": 1 <= self.size <= LARGEST_SIZE,
+            "core": self.size == len(self.core),
+            "queue": 1 <= slots <= LONGEST_QUEUE,
+            "P": 1 <= self.processes <= MOST_PROCESSES and slots >= NAMES * self.processes,
+            "limits": divides(self.read, self.size) and divides(self.write, self.size),
+            "ring": self.length <= slots and self.head < slots,
+            "names": self.sound_names(),
+            "sum": sum(counts) == self.length,
+            "count over P": all(count <= self.processes for count in counts),
+        }
+        return [test for test, passed in tests.items() if not passed]
+
+    def sound(self):
+        return not self.faults()
 
     def checked(self, name, body, place):
         """The cells of a warrior that would be loaded, and the index that its name has or gets; 9 is not looked at."""
@@ -90,7 +105,7 @@ class Record:
             raise Refused(5, 0)
         names = self.names()
         index = names.index(name) if name in names else self.held
-        if self.length == len(self.queue) or index == NAMES:
+        if index == NAMES or index < self.held and self.counts[index] == self.processes:
             raise Refused(6, 0)
         if index < self.held and self.threads[index] == LAST_NUMBER:
             raise Refused(8, 0)

@@ -75,6 +75,7 @@ def cases():
     yield made(8000, [("Splitter", SPLITTER, 0, 0), ("Imp", IMP, 0, 4000)])
     yield made(8000, [("", ZERO, 0, 10), ("Imp", IMP, 0, 3)])
     yield made(8000, [("A", IMP, 0, 0), ("B", IMP, 0, 50), ("A", DEAD, 0, 200), ("C", DWARF, 0, 4000), ("B", SPLITTER, 1, 6000)])
+    yield made(8000, [(f"S{i}", SPLITTER, 0, 500 * i) for i in range(16)])
     dice = random.Random(11)
     for _ in range(300):
         yield random_match(dice)

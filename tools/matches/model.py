@@ -58,10 +58,12 @@ def read(file):
 
 
 class Machine:
-    def __init__(self, size, limit):
+    """A machine of that size in which each name may hold so many entries of the queue."""
+
+    def __init__(self, size, processes):
         if not 1 <= size <= 8000:
             raise Refused(1)
-        self.size, self.limit = size, limit
+        self.size, self.processes = size, processes
         # opcode, modifier, modes, numbers
         self.core = [[0, 4, [1, 1], [0, 0]] for _ in range(size)]
         self.queue, self.counts, self.threads, self.steps = [], {}, {}, 0
@@ -80,6 +82,8 @@ class Machine:
             cells.append([opcode, modifier, [a_mode, b_mode], [a % self.size, b % self.size]])
         if place >= self.size:
             raise Refused(5)
+        if self.counts.get(name, 0) == self.processes:
+            raise Refused(6)
         for i, cell in enumerate(cells):
             self.core[(place + i) % self.size] = cell
         self.counts[name] = self.counts.get(name, 0) + 1
@@ -147,7 +151,7 @@ class Machine:
             return (0 if self.counts[name] else ended), writes
         self.queue.append((following % self.size, thread, name))
         self.counts[name] += 1
-        if opcode == 15 and len(self.queue) < self.limit:
+        if opcode == 15 and self.counts[name] < self.processes:
             self.queue.append((a_pointer, self.threads[name], name))
             self.threads[name] += 1
             self.counts[name] += 1
@@ -159,7 +163,7 @@ def printed(file):
         if len(file) > 32768:
             raise Refused(13, 32768)
         size, warriors = read(file)
-        machine = Machine(size, 2000)
+        machine = Machine(size, 125)
         for warrior in warriors:
             machine.load(*warrior)
     except Refused as refused:

@@ -14,6 +14,7 @@ Writes the crate CRATE below REPOSITORY/crates and lists it in crates.txt; then:
 
 After every call: number, value, the call's steps, steps taken, the queue's entries as words, counts, next thread
 numbers, the core's words, the names' bytes. Cores over SPARSE cells: only the cells that are not fresh, with their places.
+The Rust has no process limit: the machine's is as large as any name of the battle needs, at most the largest that there is.
 A panic at a step on LDP or STP is to be answer 10 with the machine unchanged; any other panic ends what is compared.
 With --reference: number and value (14 for a panic), steps taken, the instructions, then each entry and each name's count
 and next thread number with the name's bytes; after a panic, too.
@@ -47,8 +48,8 @@ use Rattle.machine.specs.Run.{Ceiling, run}
 # the shut names that a battle computes through
 OPENED = "sound_word lawful lowest_fault cells register numbered entries pop push started sound_header sound_entry fresh loaded load operand effect_of effect core_after step_written counted executed step run"
 
-# the calls, on a machine m: `size` and `limit` are numbers, `name` and `body` bytes, `origin` a number, `ceiling` an Option ℕ
-FRESH = "(fresh (of_size size) (replicate size 7) (replicate limit 9)).machine"
+# the calls, on a machine m: `size`, `processes` and `slots` are numbers, `name` and `body` bytes, `origin` a number, `ceiling` an Option ℕ
+FRESH = "(fresh (of_size size processes) (replicate size 7) (replicate slots 9)).machine"
 LOAD = "load m name body origin 0"
 STEP = "step m"
 RUN = "run (ceilings ceiling) m"
@@ -69,8 +70,12 @@ OWN = f"Rattle.{CRATE}.proofs"
 SPARSE = 64
 # -------------------------------------------------------------------------------------------------------------------
 
+# the largest process limit, and how many times as many slots the queue has at the least
+MOST_PROCESSES, NAMES_HELD = 4095, 16
+
 # DAT.F $0,$0
 FRESH_WORD = 4 << 38 | 1 << 35 | 1 << 32
+SPL = 15
 ROWS = ["answer", "entries", "counts", "threads", "core"]
 RUST_ROWS = ["answer", "core"]
 
@@ -113,9 +118,9 @@ abbrev plays : ℕ → List Call → Machine → List (List (List ℕ))
 plays size [] m = []
 plays size (c ∷ cs) m = let o = answered c m in told size o ∷ plays size cs o.machine
 
-unfoldable pub battle : ℕ → ℕ → List Call → List (List (List ℕ))
+unfoldable pub battle : ℕ → ℕ → ℕ → List Call → List (List (List ℕ))
 unfolding {OPENED}
-battle size limit calls = plays size calls {FRESH}
+battle size processes slots calls = plays size calls {FRESH}
 """
 
 RUST_PLAY = f"""\
@@ -271,6 +276,10 @@ class State:
         ]
         return [listed(row) for row in rows]
 
+    def most(self):
+        """The most entries that a name holds."""
+        return max((int(count) for count, _, _ in self.counts), default=0)
+
     def private(self):
         """Whether the front entry's cell is LDP or STP."""
         return bool(self.queue) and self.core[int(self.queue[0][0])] >> 41 >= 17
@@ -290,7 +299,15 @@ def call(words):
     return "runs " + ("none" if words[1] == "-" else f"(some {words[1]})")
 
 
+def splits(calls):
+    """Whether a warrior has an SPL; no step makes one of another opcode."""
+    return any(int(text.split(".")[0]) == SPL for words in calls if words[0] == "load" for text in words[3:])
+
+
 class RustBattle:
+    # the Rust has no process limit
+    inside = True
+
     def __init__(self, index, line, answers):
         size, *calls = groups(line)
         states = [State(answer) for answer in answers]
@@ -303,7 +320,7 @@ class Battle:
     def __init__(self, index, line, answers):
         size, *calls = groups(line)
         self.steps = 0
-        played, told, before, peak = [], [], None, 1
+        played, told, before, most, seen = [], [], None, 1, 0
         for words, answer in zip(calls, answers):
             after = State(answer)
             if after.number.startswith("panic"):
@@ -312,13 +329,16 @@ class Battle:
                     told.append(before.told(10, 0, 0))
                 break
             steps = after.steps - (before.steps if before else 0)
-            # the queue gains at most one entry a step
-            peak = max(peak, len(after.queue), (len(before.queue) if before else 0) + steps if words[0] == "run" else 0)
+            seen = max(seen, after.most())
+            # within a run a name gains at most one entry a step
+            most = max(most, seen, before.most() + steps if before and words[0] == "run" and splits(calls) else 0)
             played.append(call(words))
             told.append(after.told(after.number, after.value, steps))
             self.steps, before = after.steps, after
-        self.got = f"battle {size[0]} {peak + index % 3} ({nested(played)})"
+        processes = min(most + index % 3, MOST_PROCESSES)
+        self.got = f"battle {size[0]} {processes} {NAMES_HELD * processes + index % 2} ({nested(played)})"
         self.wanted = told
+        self.inside = seen <= MOST_PROCESSES
 
 
 def recorded(lines):
@@ -380,6 +400,8 @@ def main():
         battle = RustBattle if o.reference else Battle
         battles = [(i, battle(i, *b)) for i, b in enumerate(recorded(f)) if low <= i <= high]
     battles = [(i, b) for i, b in battles if b.steps <= o.most]
+    outside = [i for i, b in battles if not b.inside]
+    battles = [(i, b) for i, b in battles if b.inside]
 
     crate = os.path.join(o.repository, "crates", CRATE)
     shutil.rmtree(crate, ignore_errors=True)
@@ -401,7 +423,8 @@ def main():
     with open(listing) as f:
         crates = [line for line in f if not line.startswith(CRATE + ":")]
     write(listing, "".join(crates) + f"{CRATE}: {' '.join(RUST_DEPENDS if o.reference else DEPENDS)}\n")
-    print(f"{len(battles)} battles, {sum(len(b.wanted) for _, b in battles)} states, {sum(b.steps for _, b in battles)} steps", file=sys.stderr)
+    print(f"{len(battles)} battles, {sum(len(b.wanted) for _, b in battles)} states, {sum(b.steps for _, b in battles)} steps;",
+          f"left out, as a name holds over {MOST_PROCESSES} entries: {len(outside)}", file=sys.stderr)
 
 
 main()

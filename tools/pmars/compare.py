@@ -8,6 +8,8 @@ from rows import random_step, write_crate
 OPCODES = "DAT MOV ADD SUB MUL DIV MOD JMP JMZ JMN DJN CMP SEQ SNE SLT SPL NOP".split()
 MODIFIERS = "A B AB BA F X I".split()
 MODES = "#$*@{<}>"
+# how many processes each warrior may have, as in Played.antt.txt
+PROCESSES = 8
 KINDS = "no departure", "departures 1 to 5", "departure 6", "B mode #"
 LINE = re.compile(r"(\d{5})   (?:([A-Z]{3})\.([A-Z]{1,2})\s+(\S)\s*(-?\d+),\s*(\S)\s*(-?\d+))?")
 
@@ -28,7 +30,7 @@ def play(pmars, name, core, pc):
     with open(name, "w") as f:
         f.write(";assert 1\n" + "".join(text(c) + "\n" for c in core[:-1]) + f"ORG {pc}\n")
     commands = f"edit {size - 1}\n{text(core[-1])}\ntrace 0,{size - 1}\ngo\nlist 0,{size - 1}\nregisters\nquit\nquit\n"
-    run = [pmars, "-b", "-e", "-s", str(size), "-l", str(size), "-d", str(size), "-p", "8", name]
+    run = [pmars, "-b", "-e", "-s", str(size), "-l", str(size), "-d", str(size), "-p", str(PROCESSES), name]
     out = subprocess.run(run, input=commands, capture_output=True, text=True, timeout=20).stdout
     listed, queue = out[:out.index("(cdb) Round ")], out[out.index("Process queue:"):].split("\n")[1]
     after = {}

@@ -7,6 +7,8 @@ use sumacadze::{Answer, Machine, Match, Rules};
 
 const LARGEST_FILE: usize = 32768;
 const LARGEST_SIZE: u32 = 8000;
+/// Each of the sixteen names that a match may have holds at most 125 of the 2,000 entries.
+const PROCESSES: u32 = 125;
 const QUEUE: usize = 2000;
 
 /// Plays a file: gives what is to be printed, or why it is refused.
@@ -20,7 +22,8 @@ fn play(file: &[u8]) -> Result<Vec<u8>, Answer> {
     }
     let mut core = vec![0; game.size as usize];
     let mut queue = vec![0; QUEUE];
-    let mut machine = Machine::fresh(Rules::of_size(game.size), &mut core, &mut queue)?;
+    let rules = Rules::of_size(game.size, PROCESSES);
+    let mut machine = Machine::fresh(rules, &mut core, &mut queue)?;
     machine.load_match(file).report.answer.ok()?;
     let run = machine.run(None);
     let mut text = format!("{} {} {}\n", run.answer.number(), run.steps, run.writes).into_bytes();
