@@ -3,8 +3,8 @@
 //   driver TURNS                the least of so many turns, in ns, for measure.py
 //   driver agree SEED COUNT     random records on small cores: the library and the plain C leave the same
 //   driver count WHO BATTLE N [READ WRITE]
-//                               N steps of one battle by WHO (run, plain, pmars, step, plain-step), with these limits or both M,
-//                               for instruction counts; by idle, N calls of run that play nothing; by fresh, one-call,
+//                               N steps of one battle by WHO (run, short, which makes runs of 100 steps, plain, pmars, step,
+//                               plain-step), with these limits or both M, for instruction counts; by idle, N calls of run that play nothing; by fresh, one-call,
 //                               known-loads and read-loads N matches loaded, a fresh machine for each, whatever the battle
 //   driver oracle BATTLE N      a battle of N steps as a line for tools/oracle
 #include "matches.h"
@@ -14,8 +14,8 @@
 #include <string.h>
 #include <time.h>
 
-// the steps of a turn, in runs and as single steps, how many lengths of runs there are, and the matches loaded in a turn
-enum { TURN = 100000, FEW = 5000, LENGTHS = 3, MATCHES = 100, LEAGUES = 3 };
+// the steps of a turn, in runs and as single steps, those of a short run, how many lengths of runs there are, and the matches loaded in a turn
+enum { TURN = 100000, FEW = 5000, SHORT = 100, LENGTHS = 3, MATCHES = 100, LEAGUES = 3 };
 
 // the limits of a league: how far a process reads and writes
 typedef struct {
@@ -259,6 +259,9 @@ static void count(const char *who, const battle *b, long steps, const limits *l)
     library_record(&ours, &begun);
     if (!strcmp(who, "run"))
         play_run(sumacadze_run, &ours, steps);
+    else if (!strcmp(who, "short"))
+        for (long left = steps; left > 0; left -= SHORT)
+            play_run(sumacadze_run, &ours, SHORT);
     else if (!strcmp(who, "plain"))
         play_run(plain_run, &ours, steps);
     else if (!strcmp(who, "step"))

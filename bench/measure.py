@@ -116,9 +116,9 @@ def matches(found):
 print(text("agree", 1, 1_000_000))
 found = least()
 times(found)
-print("Instructions a step:\n\n| battle | run | plain C | pMARS |\n|---|---|---|---|")
+print("Instructions a step:\n\n| battle | run | in runs of 100 | plain C | pMARS |\n|---|---|---|---|---|")
 for i, name in enumerate(BATTLES[:4]):
-    row(name, [instructions(who, i, 60_000) for who in ["run", "plain", "pmars"]], 1)
+    row(name, [instructions(who, i, 60_000) for who in ["run", "short", "plain", "pmars"]], 1)
 print("\n| battle | outer step | plain C | a call that plays nothing |\n|---|---|---|---|")
 for i, name in enumerate(BATTLES):
     row(name, [instructions(who, i, 6_000) for who in ["step", "plain-step", "idle"]], 1)

@@ -42,7 +42,7 @@ split name place m = load m name (bytes SPL modifier.B mode.Direct 2 mode.Direct
 abbrev dat : List ℕ → Machine → Outcome
 dat name m = load m name (datum 0 0) 65535 7
 
--- the same with another P, or other counts
+-- the same with another P, or other counts or next thread numbers
 abbrev with_P : ℕ → Machine → Machine
 with_P processes m =
     let h = m.header in
@@ -53,16 +53,22 @@ with_counts counts m =
     let h = m.header in
     under (record { rules = h.rules; ring = h.ring; steps = h.steps; names = h.names; counts = counts; threads = h.threads }) m
 
+abbrev with_threads : List ℕ → Machine → Machine
+with_threads threads m =
+    let h = m.header in
+    under (record { rules = h.rules; ring = h.ring; steps = h.steps; names = h.names; counts = h.counts; threads = threads }) m
+
 -- so many names are loaded, one entry each
 abbrev crowded : ℕ → Machine → Machine
 crowded zero m = m
 crowded (suc n) m = (dat (call n) (crowded n m)).machine
 
--- what a step leaves: its number and pushes; name index, place and thread of each entry; the counts and next thread numbers of two names
+-- name index, place and thread number of each entry
 abbrev told : List ℕ → List ℕ
 told [] = []
 told (w ∷ ws) = let e = unpacked_entry w in e.name ∷ e.place.0 ∷ e.thread ∷ told ws
 
+-- what a call gives and leaves: its number and pushes, the entries, and the counts and next thread numbers of the first two names
 abbrev leaves : Outcome → List ℕ
 leaves o = let h = o.machine.header in o.number ∷ o.pushes ∷ (told (entries o.machine) ++ (take 2 h.counts ++ take 2 h.threads))
 
@@ -102,6 +108,14 @@ processes =
           ∷ (dat (call 16) (crowded 16 (eight 2))).number
           ∷ [];
       wanted = 6 ∷ 0 ∷ 0 ∷ 6 ∷ 0 ∷ 6 ∷ [];
+    }
+    -- the last thread number: 8 of a step, also where its child would be dropped; of a load 8, but 6 of a name that holds P
+    ∷ record {
+      got =
+          let one = with_threads (4294967295 ∷ replicate 15 0) (split A 0 (eight 1)).machine in
+          let two = with_threads (4294967295 ∷ replicate 15 0) (split A 0 (eight 2)).machine in
+          (step one).number ∷ (step two).number ∷ (dat A one).number ∷ (dat A two).number ∷ [];
+      wanted = 8 ∷ 8 ∷ 6 ∷ 8 ∷ [];
     }
     -- in a header 9: a count over P, and a P that fresh does not take
     ∷ record {
