@@ -38,7 +38,7 @@ enum {
     SUMACADZE_EXECUTE_DAT = 11, /* the place of the DAT */
     SUMACADZE_DIVIDE_BY_ZERO = 12,
     SUMACADZE_MALFORMED = 13, /* the position of the fault in the file */
-    SUMACADZE_INVALID_LIMIT = 14
+    SUMACADZE_INVALID_LIMIT = 14 /* the read or the write limit */
 };
 
 enum { SUMACADZE_NAMES = 16, SUMACADZE_NAME_BYTES = 32, SUMACADZE_NO_ORIGIN = 65535 };

@@ -22,6 +22,7 @@ pub enum Answer {
     DivideByZero,
     /// The position of the fault in the file.
     Malformed(usize),
+    /// The read or the write limit.
     InvalidLimit,
 }
 

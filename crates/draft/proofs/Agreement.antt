@@ -49,7 +49,7 @@ record Facts (m : Machine) : Type 0 where
   folds : (p : ℕ) → fold m.header.rules.write m.header.rules.size p < m.header.rules.size
   long : length m.core ≡ m.header.rules.size
   head : m.header.ring.head < length m.queue
-  limit : m.header.ring.length ≤ length m.queue
+  ring : m.header.ring.length ≤ length m.queue
   some : 0 < m.header.ring.length
   counted : 1 ≤ get_or m.header.counts (popped m).name 0
   most : get_or m.header.counts (popped m).name 0 ≤ m.header.rules.processes
@@ -73,7 +73,7 @@ facts m e =
       fits = let l : m.header.rules.size ≤ 46341 = leb-true _ _ z.1 in omega arith;
       long = h.core;
       head = h.head;
-      limit = h.limit;
+      ring = h.fits;
       some = nonzero p.1.0;
       counted = e.count;
       most = count-within m.header.rules.processes m.header.names.held m.header.counts h.within (popped m).name e.held;
@@ -238,7 +238,7 @@ module _ (m : Machine) (f : Facts m) (none : None m) where
   places-are : places (executed m).machine ≡ drop 1 (places m) ++ take (room m) (drafted m).next
   unfolding executed counted pop entries
   places-are =
-      places-queued (effect m).next (popped m) (counting m) (mod-lt _ (omega (arith, f.head))) (omega (arith, f.some, f.limit))
+      places-queued (effect m).next (popped m) (counting m) (mod-lt _ (omega (arith, f.head))) (omega (arith, f.some, f.ring))
       (rw (length-set m.header.counts (popped m).name (count - 1)) name-in) (rw lowered (omega (arith, f.counted, f.most)))
       (rw lowered (λ c. let l = f.left (omega (arith, f.counted)) in omega (arith, f.some))) next_small
       ∙ ap (λ (k : ℕ). places (counting m) ++ take (m.header.rules.processes - k) (nexts (effect m).next)) lowered

@@ -73,15 +73,15 @@ places-started : (c i : ℕ) (m : Machine) → m.header.ring.head < length m.que
 unfolding started numbered entries
 places-started c i m h l p = places-push (entry c (get_or m.header.threads i 0) i) (holding m.core (numbered i m.header) m) h l p
 
--- pushing leaves the head and the limit, and makes the length one more
+-- pushing leaves the head and the memory's length, and makes the length one more
 record Pushed (m n : Machine) : Type 0 where
   head : n.header.ring.head ≡ m.header.ring.head
-  limit : length n.queue ≡ length m.queue
+  slots : length n.queue ≡ length m.queue
   length : n.header.ring.length ≡ m.header.ring.length + 1
 
 pushed : (e : Entry) (m : Machine) → Pushed m (push e m)
 unfolding push
-pushed e m = record { head = refl; limit = length-set m.queue _ _; length = refl }
+pushed e m = record { head = refl; slots = length-set m.queue _ _; length = refl }
 
 -- and the name's count
 full-pushed : (e : Entry) (m : Machine) → e.name < length m.header.counts
@@ -128,8 +128,8 @@ places-queued (splits p c) e m h l i low d b = go (full n e.name) refl
         one ∙ sym (ap (λ (k : ℕ). places m ++ take k (p ∷ c ∷ [])) r)
     go false f =
         let g : count + 1 < P = leb-false _ _ (sym raised ∙ f) in
-        let left : n.header.ring.length < length n.queue = rw (at.length, at.limit) (d g) in
-        places-started c e.name n (omega (arith, at.head, at.limit)) left b.1.0
+        let left : n.header.ring.length < length n.queue = rw (at.length, at.slots) (d g) in
+        places-started c e.name n (omega (arith, at.head, at.slots)) left b.1.0
         ∙ ap (λ (ps : List ℕ). ps ++ (c ∷ [])) one
         ∙ append_assoc (places m) (p ∷ []) (c ∷ [])
         ∙ ap (λ (ps : List ℕ). places m ++ ps) (sym (take_all (P - count) (p ∷ c ∷ []) (omega arith)))

@@ -1,5 +1,5 @@
 -- A departure applies: 01, 'Departures from the draft', 1 to 6, in its words, and 02, A.2, in its words for 1 and 3. They are wider than the true differences.
--- Believed. Assumes nothing. 7, one queue and one limit, is outside the step comparison.
+-- Believed. Assumes nothing. 7, one queue over all names, is outside the step comparison.
 use Rattle.std.specs.Prelude.{ℕ, Bool, not, ◌&&◌, ◌||◌, [], ◌∷◌, eqb}
 use Rattle.laws.specs.Lists.{among}
 use Rattle.cell.specs.declared.Cell.{Cell}

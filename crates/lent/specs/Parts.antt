@@ -45,11 +45,11 @@ queue_of queue p = unnamed [] queue (of_size 0 0) 0 p
 abbrev pub headed : Machine → Bool
 headed m = leb (length m.queue) 65535 && ltb m.header.ring.head (length m.queue)
 
--- one more than a number that rises is one, too
+-- the number after it fits its field, too
 abbrev pub can_rise : ℕ → Bool
 can_rise n = not (eqb n 4294967295)
 
--- the head lies in its memory, and the length, the count and the next thread number of the name at i can rise
+-- the head lies in its memory, i is below 16, and the length, and the count and the next thread number of the name at i can rise
 abbrev pub can_start : Machine → ℕ → Bool
 can_start m i =
     headed m && ltb i 16 && (can_rise m.header.ring.length && can_rise (get_or m.header.counts i 0) && can_rise (get_or m.header.threads i 0))

@@ -1,4 +1,4 @@
--- What load answers past the test of the header, by its order of checks (01, 'Load'), and what it answers of M and a warrior.
+-- What load answers past the test of the header, by its order of checks (01, 'Load'; 02, A.4), and what it answers of M and a warrior.
 -- Believed. Assumes nothing.
 use Rattle.std.specs.Prelude.{ℕ, not, ◌||◌, List, [], ◌∷◌, ◌++◌, leb, ltb}
 use Rattle.answer.specs.Numbers.{Told}

@@ -31,12 +31,7 @@ pub fn warrior_refusal(size: u32, w: Warrior<'_>) -> Answer
 }
 
 // The answer of the first check of load that applies past the test of the header; an empty name is Warrior0. No memory is looked at: the process limit counts a name's entries.
-pub fn refusal(
-    rules: Rules,
-    names: &Roster,
-    processes: &Processes,
-    w: Warrior,
-) -> Answer
+pub fn refusal(rules: Rules, names: &Roster, processes: &Processes, w: Warrior) -> Answer
     ensures { told result ≡ tested_told (parts [] [] rules names.now processes.now) w.entry.name.now w.entry.body.now w.entry.place }
 {
     if names.held > MOST_NAMES {

@@ -179,7 +179,7 @@ fresh-sound rules core queue ok =
         queue = rw (length-replicate {A = ℕ} (length queue) 0) t.slots;
         processes = rw (length-replicate {A = ℕ} (length queue) 0) t.processes;
         limits = t.limits;
-        limit = omega arith;
+        fits = omega arith;
         head = rw (length-replicate {A = ℕ} (length queue) 0) some;
         few = omega arith;
         lengths = refl;

@@ -12,7 +12,7 @@ use lib.Seq.{take-set-lt, length-take-le, get_or-take}
 use borrow.Author.Tests.{leb-true, leb-false, ltb-true, ltb-false, eqb-true, eqb-false, le-leb, lt-ltb, eq-eqb, not-false}
 use Rattle.laws.specs.Lists.{every, total, same, distinct}
 use Rattle.laws.proofs.Tests.{both, neither, holds, eqb_swap}
-use Rattle.laws.proofs.Every.{every-passes, every-at, every-or, every-set, every-snoc}
+use Rattle.laws.proofs.Every.{every-passes, every-at, every-or, test-set, every-snoc}
 use Rattle.laws.proofs.Tally.{total-set, total-snoc, total-most, total-below}
 use Rattle.laws.proofs.Same.{distinct_snoc}
 use Rattle.metadata.specs.Metadata.{valid_byte}
@@ -28,7 +28,7 @@ use Rattle.machine.specs.Step.{counted}
 use Rattle.machine.proofs.Checks.{passed, accepts}
 use Rattle.machine.proofs.Names.{Shape, register-shape, length-names, take-held, names-register, Held, held-slot, held-register, new-register, held-not-new}
 
--- M, the memories' lengths and the limits as fresh takes them
+-- M, the memories' lengths, P and the limits as fresh takes them
 pub record Taken (rules : Rules) (core queue : List ℕ) : Type 0 where
   pub size : valid_size rules.size ≡ true
   pub cells : length core ≡ rules.size
@@ -70,12 +70,12 @@ taken-tests rules core queue =
     go true true true true true = refl
 
 -- P as fresh takes it: at least 1, at most 4,095, and 16 times P at most the entries of the memory
-pub record Processes (processes slots : ℕ) : Type 0 where
+pub record ValidProcesses (processes slots : ℕ) : Type 0 where
   pub some : 1 ≤ processes
   pub most : processes ≤ 4095
   pub room : 16 * processes ≤ slots
 
-pub is-processes : (processes slots : ℕ) → valid_processes processes slots ≡ true → Processes processes slots
+pub is-processes : (processes slots : ℕ) → valid_processes processes slots ≡ true → ValidProcesses processes slots
 is-processes p slots e =
     let b = both (leb 1 p && leb p 4095) (leb (16 * p) slots) e in
     let c = both (leb 1 p) (leb p 4095) b.0 in
@@ -99,7 +99,7 @@ module _ (p held : ℕ) (counts : List ℕ) (within : every (λ c. leb c p) (tak
       leb-true _ _ (subst (λ (k : ℕ). leb k p ≡ true) (get_or-take held counts i 0 h)
       (every-or (λ c. leb c p ≡ true) (take held counts) i 0 (every-passes (λ c. leb c p) (take held counts) within) (le-leb 0 p zero-le)))
 
-  module _ {slots entries : ℕ} (few : held ≤ 16) (sum : total (take held counts) ≡ entries) (p-is : Processes p slots) where
+  module _ {slots entries : ℕ} (few : held ≤ 16) (sum : total (take held counts) ≡ entries) (p-is : ValidProcesses p slots) where
     short : length (take held counts) ≤ 16
     short = rw (length-take held counts) (le_trans (min-le_left held (length counts)) few)
 
@@ -116,7 +116,7 @@ pub record Tested (m : Machine) : Type 0 where
   pub queue : valid_queue (length m.queue) ≡ true
   pub processes : valid_processes m.header.rules.processes (length m.queue) ≡ true
   pub limits : valid_limits m.header.rules ≡ true
-  pub limit : m.header.ring.length ≤ length m.queue
+  pub fits : m.header.ring.length ≤ length m.queue
   pub head : m.header.ring.head < length m.queue
   pub few : m.header.names.held ≤ 16
   pub lengths : every (λ k. leb 1 k && leb k 32) (take m.header.names.held m.header.names.lengths) ≡ true
@@ -136,7 +136,7 @@ tested m e =
       queue = t.slots;
       processes = t.processes;
       limits = t.limits;
-      limit = leb-true _ _ h.1.0;
+      fits = leb-true _ _ h.1.0;
       head = ltb-true _ _ h.1.1.0;
       few = leb-true _ _ h.1.1.1.0;
       lengths = h.1.1.1.1.0;
@@ -154,7 +154,7 @@ pub record SoundHeader (m : Machine) : Type 0 where
   pub queue : valid_queue (length m.queue) ≡ true
   pub processes : valid_processes m.header.rules.processes (length m.queue) ≡ true
   pub limits : valid_limits m.header.rules ≡ true
-  pub limit : m.header.ring.length ≤ length m.queue
+  pub fits : m.header.ring.length ≤ length m.queue
   pub head : m.header.ring.head < length m.queue
   pub few : m.header.names.held ≤ 16
   pub lengths : every (λ k. leb 1 k && leb k 32) (take m.header.names.held m.header.names.lengths) ≡ true
@@ -173,7 +173,7 @@ sound-header m s e =
       queue = t.queue;
       processes = t.processes;
       limits = t.limits;
-      limit = t.limit;
+      fits = t.fits;
       head = t.head;
       few = t.few;
       lengths = t.lengths;
@@ -187,7 +187,7 @@ pub header-sound : (m : Machine) → SoundHeader m → sound_header m ≡ true
 unfolding sound_header
 header-sound m s =
     let t = takes m.header.rules m.core m.queue (record { size = s.size; cells = s.core; slots = s.queue; processes = s.processes; limits = s.limits }) in
-    rw (t, le-leb _ _ s.limit, lt-ltb _ _ s.head, le-leb _ _ s.few, s.lengths, s.bytes, s.unlike, eq-eqb _ _ s.sum, s.within)
+    rw (t, le-leb _ _ s.fits, lt-ltb _ _ s.head, le-leb _ _ s.few, s.lengths, s.bytes, s.unlike, eq-eqb _ _ s.sum, s.within)
 
 module _ (m : Machine) (s : SoundHeader m) where
   pub size-positive : 0 < m.header.rules.size
@@ -212,7 +212,7 @@ module _ (m : Machine) (s : SoundHeader m) where
       (rw (length-take-le m.header.names.held m.header.names.lengths (omega (arith, s.shape.lengths, s.few))) h)))).1
 
   -- P is as fresh takes it
-  pub p-is : Processes m.header.rules.processes (length m.queue)
+  pub p-is : ValidProcesses m.header.rules.processes (length m.queue)
   p-is = is-processes _ _ s.processes
 
   -- a name that holds fewer than P leaves room
@@ -230,7 +230,7 @@ module _ (m : Machine) (s : SoundHeader m) where
       → every (λ c. leb c m.header.rules.processes) (take m.header.names.held (set m.header.counts i v)) ≡ true
   within-set i v h l =
       ap (every (λ c. leb c m.header.rules.processes)) (take-set-lt m.header.names.held m.header.counts i v h)
-      ∙ every-set (λ c. leb c m.header.rules.processes) (take m.header.names.held m.header.counts) i v s.within (le-leb _ _ l)
+      ∙ test-set (λ c. leb c m.header.rules.processes) (take m.header.names.held m.header.counts) i v s.within (le-leb _ _ l)
 
   -- one count set: the sum changes by it
   total-counts : (i v : ℕ) → i < m.header.names.held
@@ -261,7 +261,7 @@ module _ (m : Machine) (s : SoundHeader m) where
         queue = rw q s.queue;
         processes = rw q s.processes;
         limits = s.limits;
-        limit = rw q (entries-fit m.header.rules.processes m.header.names.held counts w s.few t p-is);
+        fits = rw q (entries-fit m.header.rules.processes m.header.names.held counts w s.few t p-is);
         head = rw q h;
         few = s.few;
         lengths = s.lengths;
@@ -319,7 +319,7 @@ module _ (m : Machine) (s : SoundHeader m) (core : List ℕ) (c : length core �
           queue = s.queue;
           processes = s.processes;
           limits = s.limits;
-          limit = s.limit;
+          fits = s.fits;
           head = s.head;
           few = omega arith;
           lengths =

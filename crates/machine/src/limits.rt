@@ -1,4 +1,4 @@
-// The limits of the record (01, 'What a call gives back').
+// The limits of the record (01, 'What a call gives back'; 02, A.4).
 
 // The size of the largest core.
 pub const LARGEST_CORE: u32 = 46341;

@@ -5,7 +5,7 @@ use mathlib.Core.Bool.{Bool, true, false, cond, ◌&&◌}
 use mathlib.Core.List.{List}
 use Prim.Native.Nat.{ℕ, ◌+◌, ◌≤◌, ◌<◌}
 use native.Mathlib.Omega.{arith}
-use lib.Dec.{eqb}
+use lib.Dec.{eqb, leb, ltb}
 use lib.ListN.{length, get_or, set}
 use borrow.Author.Tests.{le-leb, lt-ltb, ltb-true, ne_eqb}
 use Rattle.laws.proofs.Tests.{both, and-true}
@@ -32,8 +32,10 @@ module _ (m : Machine) where
 
   some_slots : (i : ℕ) → can_start m i ≡ true → 0 < length m.queue
   some_slots i e =
-      let head = both _ _ (both _ _ (both _ _ e).0).0 in
-      let l : m.header.ring.head < length m.queue = ltb-true _ _ head.1 in
+      let rise = can_rise m.header.ring.length && can_rise (get_or m.header.counts i 0) && can_rise (get_or m.header.threads i 0) in
+      let there = (both (headed m) (ltb i 16) (both (headed m && ltb i 16) rise e).0).0 in
+      let l : m.header.ring.head < length m.queue
+      = ltb-true _ _ (both (leb (length m.queue) 65535) (ltb m.header.ring.head (length m.queue)) there).1 in
       omega arith
 
 module _ (queue : List ℕ) (p : Processes) (place i : ℕ) where

@@ -1,4 +1,4 @@
--- The Rust's domain (01, its last sentence before 'Departures from the draft'; 02, A.2: both limits M), and the statement that our machine agrees with the Rust there.
+-- The Rust's domain (01, its last sentence before 'Departures from the draft'; 02, A.2: both limits M, and A.4: no name meets P), and the statement that our machine agrees with the Rust there.
 -- Believed. Assumes nothing.
 use Rattle.std.specs.Prelude.{ℕ, zero, suc, ◌-◌, ◌≤◌, ◌≡◌, Bool, true, false, cond, not, ◌&&◌, ◌||◌, List, [], ◌∷◌, eqb, None, Some}
 use Rattle.std.proofs.Math.Option.{Option, none, some}

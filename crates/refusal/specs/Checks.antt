@@ -6,7 +6,7 @@ use Rattle.machine.specs.State.{Machine, Check, check, first, verdict_told}
 use Rattle.machine.specs.Step.{next_checks}
 use Rattle.soundness.specs.Bounds.{bounded}
 
--- M, the memories' lengths and the limits are such as fresh takes, and the head lies in the queue memory: so no read leaves a memory
+-- M, the memories' lengths, P and the limits are such as fresh takes, and the head lies in the queue memory: so no read leaves a memory
 abbrev pub in_bounds : Machine → Bool
 in_bounds m = bounded m.core m.queue m.header.rules m.header.ring.head
 

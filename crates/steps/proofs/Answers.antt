@@ -35,7 +35,7 @@ use Rattle.address.proofs.Evaluation.{over-private, few-public}
 use Rattle.steps.specs.declared.opcode.Executed.{Executed}
 use Rattle.steps.specs.declared.ring.Stepped.{Stepped}
 use Rattle.steps.specs.Inner.Instruction.{Executable, answered}
-use Rattle.steps.specs.Inner.Queueing.{line_of, tail_of, Front, next_of, writes_of, Requeued}
+use Rattle.steps.specs.Inner.Queueing.{limited_queue, tail_of, Front, next_of, writes_of, Requeued}
 use Rattle.steps.specs.Inner.Ready.{Ready, Playable, step_of}
 use Rattle.steps.proofs.Naming.{within, queued-within}
 
@@ -109,16 +109,16 @@ module _ (m : Machine) (ready : Ready m) (play : Playable m) where
   fetches = let f = fetched-is in (ready.head, rw f.cells f.place)
 
   -- what going on asks of the queue
-  pub front-is : {tail : ℕ} → tail ≡ tail_of m → Front (line_of m.header.rules.processes m.queue (processes_of m.header)) tail
+  pub front-is : {tail : ℕ} → tail ≡ tail_of m → Front (limited_queue m.header.rules.processes m.queue (processes_of m.header)) tail
   front-is e =
       let k = count-le m.header.counts m.header.names.held (popped m).name at_front.held in
       let t = ready.sum in
-      let l = ready.limit in
+      let l = ready.fits in
       record {
         slots = slots-le m ready;
         head = ready.head;
         some = nonzero passed.0;
-        limit = l;
+        fits = l;
         behind = e;
         upper = at_front.top;
         sixteen = ready.counts;
@@ -170,7 +170,7 @@ writes_are (splits p c) w = refl
 -- an instruction executed, and the queue as it leaves it, whatever the names
 module _ (core queue : List ℕ) (rules : Rules) (p : Processes) where
   abbrev line : Machine
-  line = line_of rules.processes queue p
+  line = limited_queue rules.processes queue p
 
   -- the processes once the step is counted
   abbrev pub later : Processes
@@ -183,28 +183,28 @@ module _ (core queue : List ℕ) (rules : Rules) (p : Processes) where
   writes = length (written_at (site_at rules (pc line)) core)
 
   pub executes : {x : Executed} {r : Stepped} {core' queue' : List ℕ} {p' : Processes} → (x ≡ answered next writes) × (core' ≡ core_at (site_at rules (pc line)) core)
-      → Requeued (line_of rules.processes queue later) x r (line_of rules.processes queue' p') → (names : Roster)
+      → Requeued (limited_queue rules.processes queue later) x r (limited_queue rules.processes queue' p') → (names : Roster)
       → given (told r.answer) r.writes 1 (parts core' queue' rules names p') ≡ given_by (executed (parts core queue rules names p))
   unfolding executed effect step_written spec.core_after counted pop
   executes e q names =
       (λ i. given (q.answer i) (q.writes i) 1 (within (e.1 i) rules names (q.machine i)))
       ∙ ap₂ (λ (n : Next) (w : ℕ). by n w) (ap next_of e.0 ∙ next-is next writes) (ap writes_of e.0 ∙ writes_are next writes)
       ∙ sym (ap (λ (k : Queued). given (next_told next (get_or (pop line).header.counts (popped line).name 0) (pc line)) writes 1 k.machine)
-      (queued-within (core_at (site_at rules (pc line)) core) rules names next (popped line) (pop (line_of rules.processes queue later)) refl))
+      (queued-within (core_at (site_at rules (pc line)) core) rules names next (popped line) (pop (limited_queue rules.processes queue later)) refl))
     where
       by : Next → ℕ → Given
       by n w = given (next_told n (get_or (pop line).header.counts (popped line).name 0) (pc line)) w 1
-          (within (core_at (site_at rules (pc line)) core) rules names (queued n (popped line) (pop (line_of rules.processes queue later))).machine)
+          (within (core_at (site_at rules (pc line)) core) rules names (queued n (popped line) (pop (limited_queue rules.processes queue later))).machine)
 
 -- the front entry stays as it is when the step is counted
-pub counted-front : {limit : ℕ} {queue : List ℕ} {p : Processes} {tail : ℕ} → Front (line_of limit queue p) tail
-    → Front (line_of limit queue (record { ring = p.ring; steps = p.steps + 1; counts = p.counts; threads = p.threads })) tail
+pub counted-front : {limit : ℕ} {queue : List ℕ} {p : Processes} {tail : ℕ} → Front (limited_queue limit queue p) tail
+    → Front (limited_queue limit queue (record { ring = p.ring; steps = p.steps + 1; counts = p.counts; threads = p.threads })) tail
 counted-front f =
     record {
       slots = f.slots;
       head = f.head;
       some = f.some;
-      limit = f.limit;
+      fits = f.fits;
       behind = f.behind;
       upper = f.upper;
       sixteen = f.sixteen;

@@ -82,7 +82,7 @@ letters-valid =
 module _ (m : Machine) where
   pub unnamed-ready : (bytes lengths : List ℕ) → Ready (naming bytes lengths m) → Ready m
   unnamed-ready bytes lengths r =
-      record { taken = r.taken; limit = r.limit; head = r.head; few = r.few; sum = r.sum; within = r.within; counts = r.counts; threads = r.threads }
+      record { taken = r.taken; fits = r.fits; head = r.head; few = r.few; sum = r.sum; within = r.within; counts = r.counts; threads = r.threads }
 
   -- ready: sound with these names
   pub lettered : Ready m → Sound (naming letters ones m)
@@ -97,7 +97,7 @@ module _ (m : Machine) where
           queue = t.slots;
           processes = t.processes;
           limits = t.limits;
-          limit = r.limit;
+          fits = r.fits;
           head = r.head;
           few = r.few;
           lengths = v.0;
@@ -121,7 +121,7 @@ module _ (m : Machine) where
       let t = tested m s.header in
       record {
         taken = takes m.header.rules m.core m.queue (record { size = t.size; cells = t.core; slots = t.queue; processes = t.processes; limits = t.limits });
-        limit = t.limit;
+        fits = t.fits;
         head = t.head;
         few = t.few;
         sum = t.sum;

@@ -26,7 +26,7 @@ use Rattle.machine.specs.Step.{popped, pc, Queued, queued, end_told, next_told}
 use Rattle.steps.specs.declared.opcode.Executed.{Executed}
 use Rattle.steps.specs.declared.opcode.Executed.TheVariants.{Goes, Splits}
 use Rattle.steps.specs.declared.ring.Stepped.{Stepped}
-use Rattle.steps.specs.Inner.Queueing.{ring_of, line_of, tail_of, Front, next_of, writes_of, ended, Requeued}
+use Rattle.steps.specs.Inner.Queueing.{ring_of, limited_queue, tail_of, Front, next_of, writes_of, ended, Requeued}
 
 abbrev Answer : Type 0
 Answer = Result (Unit {0}) Error
@@ -55,7 +55,7 @@ one_on h l m = mod-add-mod (h + l) m 1 ∙ ap (λ (k : ℕ). k % m) (sum h l) �
 -- a process started, or dropped where its name holds P
 module _ (limit : ℕ) (queue : List ℕ) (p : Processes) (place name : ℕ) where
   abbrev lent : Machine
-  lent = line_of limit queue p
+  lent = limited_queue limit queue p
 
   abbrev pub grown : Machine
   grown = cond (full lent name) lent (started place name lent)
@@ -64,13 +64,13 @@ module _ (limit : ℕ) (queue : List ℕ) (p : Processes) (place name : ℕ) whe
   keeps h = sym (ap (λ (b : Bool). cond b lent (started place name lent)) h)
 
   pub starts : {tail v : ℕ} {q : List ℕ} → full lent name ≡ false → tail ≡ tail_of lent → v ≡ packed_entry (entry place (get_or p.threads name 0) name) → q ≡ set queue tail v
-      → line_of limit q
+      → limited_queue limit q
       (record { ring = ring_of p.ring.head (p.ring.length + 1); steps = p.steps; counts = set p.counts name (get_or p.counts name 0 + 1); threads = set p.threads name (get_or p.threads name 0 + 1) })
       ≡ grown
   unfolding started push numbered
   starts h t e f =
-      ap (λ (q : List ℕ). line_of limit q (record { ring = ring_of p.ring.head (p.ring.length + 1); steps = p.steps; counts = set p.counts name (get_or p.counts name 0 + 1); threads = set p.threads name (get_or p.threads name 0 + 1) })) f
-      ∙ (λ i. line_of limit (set queue (t i) (e i))
+      ap (λ (q : List ℕ). limited_queue limit q (record { ring = ring_of p.ring.head (p.ring.length + 1); steps = p.steps; counts = set p.counts name (get_or p.counts name 0 + 1); threads = set p.threads name (get_or p.threads name 0 + 1) })) f
+      ∙ (λ i. limited_queue limit (set queue (t i) (e i))
       (record { ring = ring_of p.ring.head (p.ring.length + 1); steps = p.steps; counts = set p.counts name (get_or p.counts name 0 + 1); threads = set p.threads name (get_or p.threads name 0 + 1) }))
       ∙ sym (ap (λ (b : Bool). cond b lent (started place name lent)) h)
 
@@ -83,9 +83,9 @@ module _ (limit : ℕ) (queue : List ℕ) (p : Processes) (place name : ℕ) whe
       sum h l = omega arith
 
 -- a queue with its front entry
-module _ {limit : ℕ} {queue : List ℕ} {p : Processes} {tail : ℕ} (f : Front (line_of limit queue p) tail) where
+module _ {limit : ℕ} {queue : List ℕ} {p : Processes} {tail : ℕ} (f : Front (limited_queue limit queue p) tail) where
   abbrev line : Machine
-  line = line_of limit queue p
+  line = limited_queue limit queue p
 
   abbrev name : ℕ
   name = (popped line).name
@@ -101,10 +101,10 @@ module _ {limit : ℕ} {queue : List ℕ} {p : Processes} {tail : ℕ} (f : Fron
   abbrev moved : ℕ → List ℕ
   moved next = set queue tail (packed_entry (entry next (popped line).thread name))
 
-  pushed-is : (next : ℕ) → line_of limit (moved next) (onward next-head p) ≡ push (entry next (popped line).thread name) (pop line)
+  pushed-is : (next : ℕ) → limited_queue limit (moved next) (onward next-head p) ≡ push (entry next (popped line).thread name) (pop line)
   unfolding push pop
   pushed-is next = λ i.
-      line_of limit (set queue ((f.behind ∙ slot_is p.ring.head p.ring.length (length queue) f.some) i) (packed_entry (entry next (popped line).thread name)))
+      limited_queue limit (set queue ((f.behind ∙ slot_is p.ring.head p.ring.length (length queue) f.some) i) (packed_entry (entry next (popped line).thread name)))
       (record { ring = ring_of next-head (longer i); steps = p.steps; counts = lower-raise p.counts name (omega (arith, name-lt, f.sixteen)) f.count i; threads = p.threads })
     where
       longer : p.ring.length ≡ p.ring.length - 1 + 1
@@ -113,8 +113,8 @@ module _ {limit : ℕ} {queue : List ℕ} {p : Processes} {tail : ℕ} (f : Fron
   pub moved-is : (next : ℕ) {v w : ℕ} → w ≡ get_or queue p.ring.head 0 → v ≡ packed_entry (entry next (unpacked_entry w).thread (unpacked_entry w).name) → set queue tail v ≡ moved next
   moved-is next e f = ap (set queue tail) (f ∙ ap (λ (w : ℕ). packed_entry (entry next (unpacked_entry w).thread (unpacked_entry w).name)) e)
 
-  pushed : (next : ℕ) {h : ℕ} {q : List ℕ} → h ≡ next-head → q ≡ moved next → line_of limit q (onward h p) ≡ push (entry next (popped line).thread name) (pop line)
-  pushed next eh eq = (λ i. line_of limit (eq i) (onward (eh i) p)) ∙ pushed-is next
+  pushed : (next : ℕ) {h : ℕ} {q : List ℕ} → h ≡ next-head → q ≡ moved next → limited_queue limit q (onward h p) ≡ push (entry next (popped line).thread name) (pop line)
+  pushed next eh eq = (λ i. limited_queue limit (eq i) (onward (eh i) p)) ∙ pushed-is next
 
   -- the tail after one push
   pub tail-on : (v : ℕ) {h t : ℕ} {q : List ℕ} → h ≡ next-head → t ≡ ahead (length queue) tail 1 → q ≡ set queue tail v → t ≡ ahead (length q) h p.ring.length
@@ -124,11 +124,11 @@ module _ {limit : ℕ} {queue : List ℕ} {p : Processes} {tail : ℕ} (f : Fron
 
   -- what a child started then asks
   pub child-asks : (v : ℕ) {h t : ℕ} {q : List ℕ} {e : Entry} → h ≡ next-head → (t ≡ ahead (length queue) tail 1) × (q ≡ set queue tail v) → e ≡ popped line
-      → (length q ≤ 65535) × (t < length q) × (t ≡ tail_of (line_of limit q (onward h p))) × (e.name < 16) × (p.ring.length ≤ length q) × (get_or p.threads e.name 0 ≡ 4294967295 → ⊥) × (get_or p.counts e.name 0 < 4294967295)
+      → (length q ≤ 65535) × (t < length q) × (t ≡ tail_of (limited_queue limit q (onward h p))) × (e.name < 16) × (p.ring.length ≤ length q) × (get_or p.threads e.name 0 ≡ 4294967295 → ⊥) × (get_or p.counts e.name 0 < 4294967295)
   child-asks v eh g ee =
       let few = f.slots in
       let counted = f.counted in
-      let l = f.limit in (
+      let l = f.fits in (
         rw (g.1, length-set queue tail v) few,
         rw (g.0, g.1, length-set queue tail v) (ahead-lt (length queue) tail 1 (omega (arith, f.head))),
         tail-on v eh g.0 g.1,
@@ -140,7 +140,7 @@ module _ {limit : ℕ} {queue : List ℕ} {p : Processes} {tail : ℕ} (f : Fron
 
   module _ {x : Executed} where
     pub goes_on : {next : Absolute} {wr h t : ℕ} {q : List ℕ} → x ≡ Goes next wr → h ≡ next-head → t ≡ ahead (length queue) tail 1
-        → q ≡ moved next.0 → Requeued line x (stepped (Ok tt) wr t) (line_of limit q (onward h p))
+        → q ≡ moved next.0 → Requeued line x (stepped (Ok tt) wr t) (limited_queue limit q (onward h p))
     goes_on {next = next} {h = h} e eh et eq =
         record {
           machine = pushed next.0 eh eq ∙ ap (λ (y : Executed). (queued (next_of y) (popped line) (pop line)).machine) (sym e);
@@ -169,11 +169,11 @@ module _ {limit : ℕ} {queue : List ℕ} {p : Processes} {tail : ℕ} (f : Fron
     -- an ended process pushes nothing
     pub ended-on : (y : Ending) {wr h : ℕ} {e : Entry} {answer : Answer} {q : Processes} → next_of x ≡ ends y → writes_of x ≡ wr → h ≡ next-head → e ≡ popped line
         → (told answer ≡ cond (eqb (get_or p.counts e.name 0 - 1) 0) (end_told y e.place.0) (gives 0 0)) × (q ≡ ended e.name (onward h p))
-        → Requeued line x (stepped answer wr tail) (line_of limit queue q)
+        → Requeued line x (stepped answer wr tail) (limited_queue limit queue q)
     unfolding pop
     ended-on y {h = h} {e = e} ex ew eh ee g =
         record {
-          machine = ap (line_of limit queue) g.1 ∙ (λ j. line_of limit queue (ended (ee j).name (onward (eh j) p))) ∙ ap (λ (n : Next). (queued n (popped line) (pop line)).machine) (sym ex);
+          machine = ap (limited_queue limit queue) g.1 ∙ (λ j. limited_queue limit queue (ended (ee j).name (onward (eh j) p))) ∙ ap (λ (n : Next). (queued n (popped line) (pop line)).machine) (sym ex);
           answer = g.0 ∙ ap (λ (e : Entry). cond (eqb (get_or p.counts e.name 0 - 1) 0) (end_told y e.place.0) (gives 0 0)) ee
               ∙ ap (λ (k : ℕ). cond (eqb k 0) (end_told y (pc line)) (gives 0 0)) (sym left)
               ∙ ap (λ (n : Next). next_told n (get_or (pop line).header.counts name 0) (pc line)) (sym ex);

@@ -18,7 +18,7 @@ use Rattle.machine.specs.Step.{pc, executed}
 use Rattle.lent.specs.Parts.{processes_of}
 use Rattle.lent.specs.Given.{Given, given, given_by}
 use Rattle.steps.specs.Inner.Instruction.{Executable}
-use Rattle.steps.specs.Inner.Queueing.{line_of, tail_of, Front}
+use Rattle.steps.specs.Inner.Queueing.{limited_queue, tail_of, Front}
 use Rattle.steps.specs.Inner.Ready.{Ready, step_of, plays_of, Playable, Scanned}
 use Rattle.steps.proofs.Answers.{step_left, fetches, front-is, private-step, executable, executed-step}
 use Rattle.steps.proofs.Trust.{Playing, playable, plays-on}
@@ -58,7 +58,7 @@ module _ {until : ℕ} {start m : Machine} {w tail : ℕ} (g : Round until start
       few-is : (unpacked (get_or m.core (pc m) 0)).opcode ≤ 16
       few-is = subst (λ (n : ℕ). n ≤ 16) opcode-is few
 
-      pub can-step : Front (line_of m.header.rules.processes m.queue (processes_of m.header)) tail × Executable m.header.rules m.core (pc m) cell
+      pub can-step : Front (limited_queue m.header.rules.processes m.queue (processes_of m.header)) tail × Executable m.header.rules m.core (pc m) cell
       can-step = (
         front-is m g.going.ready can-play g.behind,
         subst (Executable m.header.rules m.core (pc m)) (sym fetched) (executable m g.going.ready can-play few-is),

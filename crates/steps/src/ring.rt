@@ -5,7 +5,7 @@ ghost use Rattle.answer.specs.Numbers.{told, told_error, gives};
 ghost use Rattle.offset.specs.Offset.{ahead};
 ghost use Rattle.machine.specs.Queue as spec;
 ghost use Rattle.machine.specs.Queue.{packed_entry, unpacked_entry, entry, started};
-ghost use Rattle.steps.specs.Inner.Queueing.{Front, Near, Requeued, line_of, tail_of, ended};
+ghost use Rattle.steps.specs.Inner.Queueing.{Front, Near, Requeued, limited_queue, tail_of, ended};
 
 use crate::opcode::Executed;
 use answer::{Answer, Error};
@@ -42,7 +42,7 @@ fn push(queue: &mut [u64], tail: u32, w: u64) -> u32
     slot_after(tail, queue.len() as u32)
 }
 
-// SPL's child is started, where its name does not hold P: the tail afterwards. By `queue::start`, which tests what a header may hold and finds the tail anew, a step of a battle with SPL takes 4 % more instructions.
+// SPL's child is started, where its name does not hold P: the tail afterwards. By `queue::start`, which tests what a header may hold and finds the tail anew, a step of a battle with SPL takes more instructions; before the process limit was of a name it was 4 %.
 fn start_child(
     queue: &mut [u64],
     processes: &mut Processes,
@@ -51,11 +51,11 @@ fn start_child(
     place: Absolute,
     name: u8,
 ) -> u32
-    requires { (lists.length queue.old ≤ 65535) × (tail < lists.length queue.old) × (tail ≡ tail_of (line_of limit queue.old processes.old)) × (name < 16)
+    requires { (lists.length queue.old ≤ 65535) × (tail < lists.length queue.old) × (tail ≡ tail_of (limited_queue limit queue.old processes.old)) × (name < 16)
         × (processes.old.ring.length ≤ lists.length queue.old)
         × (get_or processes.old.threads name 0 ≡ 4294967295 → ⊥) × (get_or processes.old.counts name 0 < 4294967295) }
-    ensures { (line_of limit queue.new processes.new ≡ cond (spec.full (line_of limit queue.old processes.old) name) (line_of limit queue.old processes.old) (started place.0 name (line_of limit queue.old processes.old)))
-        × (result ≡ tail_of (line_of limit queue.new processes.new)) }
+    ensures { (limited_queue limit queue.new processes.new ≡ cond (spec.full (limited_queue limit queue.old processes.old) name) (limited_queue limit queue.old processes.old) (started place.0 name (limited_queue limit queue.old processes.old)))
+        × (result ≡ tail_of (limited_queue limit queue.new processes.new)) }
 {
     let who = name as usize;
     if processes.counts[who] >= limit {
@@ -109,8 +109,8 @@ pub(crate) fn requeue(
     w: u64,
     executed: Executed,
 ) -> Stepped
-    requires { Front (line_of limit queue.old processes.old) tail × (w ≡ get_or queue.old processes.old.ring.head 0) × Near executed }
-    ensures { Requeued (line_of limit queue.old processes.old) executed result (line_of limit queue.new processes.new) }
+    requires { Front (limited_queue limit queue.old processes.old) tail × (w ≡ get_or queue.old processes.old.ring.head 0) × Near executed }
+    ensures { Requeued (limited_queue limit queue.old processes.old) executed result (limited_queue limit queue.new processes.new) }
 {
     processes.ring.head = slot_after(processes.ring.head, queue.len() as u32);
     match executed {

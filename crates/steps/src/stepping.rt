@@ -8,7 +8,7 @@ ghost use Rattle.machine.specs.Step as spec;
 ghost use Rattle.lent.specs.Parts.{parts};
 ghost use Rattle.lent.specs.Given.{given, given_by};
 ghost use Rattle.steps.specs.Inner.Instruction.{Executable};
-ghost use Rattle.steps.specs.Inner.Queueing.{Front, line_of, tail_of};
+ghost use Rattle.steps.specs.Inner.Queueing.{Front, limited_queue, tail_of};
 
 use crate::execute::execute;
 use crate::ring::{Stepped, requeue};
@@ -41,11 +41,11 @@ pub(crate) fn step_once(
     tail: u32,
     fetched: Fetched,
 ) -> Stepped
-    requires { Front (line_of rules.processes queue.old processes.old) tail × (fetched.entry ≡ get_or queue.old processes.old.ring.head 0)
+    requires { Front (limited_queue rules.processes queue.old processes.old) tail × (fetched.entry ≡ get_or queue.old processes.old.ring.head 0)
         × Executable rules core.old (unpacked_entry (get_or queue.old processes.old.ring.head 0)).place.0 fetched.cell × (processes.old.steps < 4294967295) }
     ensures { ((names : Roster) → given (told result.answer) result.writes 1 (parts core.new queue.new rules names processes.new)
         ≡ given_by (spec.executed (parts core.old queue.old rules names processes.old)))
-        × (result.tail ≡ tail_of (line_of rules.processes queue.new processes.new)) }
+        × (result.tail ≡ tail_of (limited_queue rules.processes queue.new processes.new)) }
 {
     let w = fetched.entry;
     let executed = execute(core, rules, unpack(w).place, fetched.cell);

@@ -55,7 +55,7 @@ module _ (m : Machine) (name body : List ℕ) (place i : ℕ) (a : Accepted m na
           let below : i < m.header.names.held = omega arith in
           let t = tested m sound in
           let s : total (take m.header.names.held m.header.counts) ≡ m.header.ring.length = t.sum in
-          let q : m.header.ring.length ≤ length m.queue = t.limit in
+          let q : m.header.ring.length ≤ length m.queue = t.fits in
           let v : length m.queue ≤ 65535 = leb-true (length m.queue) 65535 (both (leb 1 (length m.queue)) (leb (length m.queue) 65535) t.queue).1 in
           let k : get_or m.header.counts i 0 ≤ total (take m.header.names.held m.header.counts) = count-le m.header.counts m.header.names.held i below in (
             λ f. omega arith,
@@ -79,7 +79,7 @@ module _ (m : Machine) (name body : List ℕ) (place i : ℕ) (a : Accepted m na
       let n = with_core core (under (registered m.header name) m) in
       let v : length m.queue ≤ 65535 = leb-true (length m.queue) 65535 (both (leb 1 (length m.queue)) (leb (length m.queue) 65535) t.queue).1 in
       let h : m.header.ring.head < length m.queue = t.head in
-      let l : m.header.ring.length ≤ length m.queue = t.limit in
+      let l : m.header.ring.length ≤ length m.queue = t.fits in
       simp (can n i (inside n v (rw ring-stays h)) a.free (rw ring-stays (λ f. omega arith)) risen.0 risen.1)
 
   -- and the body is placed

@@ -1,4 +1,4 @@
-// A warrior loaded into the core (01, 'Load').
+// A warrior loaded into the core (01, 'Load'; 02, A.4).
 #![tactic(auto)]
 
 ghost use Rattle.std.specs.Prelude.{◌≡◌, cond, ◌≤◌};

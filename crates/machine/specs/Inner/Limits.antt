@@ -63,9 +63,10 @@ limits =
           ∷ told (limited 8 8 16) 8 16
           ∷ told (limited 8 3 3) 7 16
           ∷ told (limited 8 3 3) 8 0
+          ∷ told (limited 8 3 3) 8 15
           ∷ told (limited 0 0 0) 0 16
           ∷ [];
-      wanted = 0 ∷ 0 ∷ 14 ∷ 14 ∷ 14 ∷ 14 ∷ 2 ∷ 2 ∷ 1 ∷ [];
+      wanted = 0 ∷ 0 ∷ 14 ∷ 14 ∷ 14 ∷ 14 ∷ 2 ∷ 2 ∷ 2 ∷ 1 ∷ [];
     }
     -- in a header such a limit is 9
     ∷ record { got = (step (under (blank (limited 8 8 3)) (jump 0 (of_size 8 1) mode.Direct 1 []))).number ∷ []; wanted = 9 ∷ [] }

@@ -77,8 +77,20 @@ unfolding sound_word lawful lowest_fault cells register numbered entries pop pus
 processes =
     -- fresh: P is 1 to 4,095, with 16 times as many entries or more, of 65,535 at most
     record {
-      got = made 0 16 ∷ made 1 15 ∷ made 1 16 ∷ made 2 31 ∷ made 2 32 ∷ made 2 33 ∷ [];
-      wanted = 2 ∷ 2 ∷ 0 ∷ 2 ∷ 0 ∷ 0 ∷ [];
+      got =
+          made 0 16
+          ∷ made 1 15
+          ∷ made 1 16
+          ∷ made 2 31
+          ∷ made 2 32
+          ∷ made 2 33
+          ∷ made 4095 65519
+          ∷ made 4095 65520
+          ∷ made 4096 65535
+          ∷ made 1 65535
+          ∷ made 1 65536
+          ∷ [];
+      wanted = 2 ∷ 2 ∷ 0 ∷ 2 ∷ 0 ∷ 0 ∷ 2 ∷ 0 ∷ 2 ∷ 0 ∷ 2 ∷ [];
     }
     -- SPL $2 with P 1: (1, thread 0) alone, next thread 1
     ∷ record { got = leaves (step (split A 0 (eight 1)).machine); wanted = 0 ∷ 1 ∷ 0 ∷ 1 ∷ 0 ∷ 1 ∷ 0 ∷ 1 ∷ 0 ∷ [] }

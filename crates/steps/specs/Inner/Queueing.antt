@@ -18,8 +18,8 @@ abbrev pub ring_of : ℕ → ℕ → Ring
 ring_of head length = record { head = head; length = length }
 
 -- a queue alone with a process limit
-abbrev pub line_of : ℕ → List ℕ → Processes → Machine
-line_of processes queue p = unnamed [] queue (of_size 0 processes) 0 p
+abbrev pub limited_queue : ℕ → List ℕ → Processes → Machine
+limited_queue processes queue p = unnamed [] queue (of_size 0 processes) 0 p
 
 -- the slot that the next entry goes to
 abbrev pub tail_of : Machine → ℕ
@@ -30,7 +30,7 @@ pub record Front (m : Machine) (tail : ℕ) : Type 0 where
   pub slots : length m.queue ≤ 65535
   pub head : m.header.ring.head < length m.queue
   pub some : 0 < m.header.ring.length
-  pub limit : m.header.ring.length ≤ length m.queue
+  pub fits : m.header.ring.length ≤ length m.queue
   pub behind : tail ≡ tail_of m
   pub upper : get_or m.queue m.header.ring.head 0 / 2 ^ 52 ≡ 0
   pub sixteen : length m.header.counts ≡ 16

@@ -12,7 +12,7 @@ use Rattle.steps.specs.declared.Ran.{Ran}
 -- the tests of its header that a step uses, all but those of the names' bytes, and arrays of their lengths
 pub record Ready (m : Machine) : Type 0 where
   pub taken : passes (fresh_checks m.header.rules m.core m.queue) ≡ true
-  pub limit : m.header.ring.length ≤ length m.queue
+  pub fits : m.header.ring.length ≤ length m.queue
   pub head : m.header.ring.head < length m.queue
   pub few : m.header.names.held ≤ 16
   pub sum : total (take m.header.names.held m.header.counts) ≡ m.header.ring.length
