@@ -18,11 +18,14 @@ use Rattle.machine.specs.State.{Machine, accepted, first}
 use Rattle.machine.specs.Names.{slot, is_new, register, registered, numbered}
 use Rattle.machine.specs.Queue.{pop, push, started}
 use Rattle.machine.specs.Fresh.{blank}
-use Rattle.machine.specs.Load.{loaded, load_checks, load}
+use Rattle.machine.specs.Place.{placing, place}
+use Rattle.machine.specs.Start.{starting, start}
 use Rattle.machine.specs.Step.{popped, effect, counted, executed, step_checks, step}
 use Rattle.machine.specs.Run.{Ceiling, run}
 use Rattle.machine.proofs.Checks.{passed}
-use Rattle.machine.proofs.Load.{placing, load-by-cases}
+use Rattle.machine.proofs.Registering.{naming}
+use Rattle.machine.proofs.Place.{place-by-cases}
+use Rattle.machine.proofs.Start.{Startable, startable, start-by-cases}
 use Rattle.machine.proofs.Queueing.{queued-by-cases, any-places}
 use Rattle.machine.proofs.Step.{step-by-cases, counting}
 use Rattle.machine.proofs.Run.{run-keeps}
@@ -76,8 +79,8 @@ step-bounded m b = step-by-cases (λ o. Bounded o.machine.header) m (λ n v e x.
 pub run-bounded : (c : Ceiling) (m : Machine) → Bounded m.header → Bounded (run c m).machine.header
 run-bounded c m b = run-keeps (λ n. Bounded n.header) step-bounded c m b
 
--- a load
-module _ (h : Header) (n : List ℕ) (b : Bounded h) (free : (not (is_new h.names n) && eqb (get_or h.threads (slot h.names n) 0) 4294967295) ≡ false) where
+-- a name registered
+module _ (h : Header) (n : List ℕ) (b : Bounded h) where
   registered-bounded : Bounded (registered h n)
   unfolding register
   registered-bounded = go (is_new h.names n)
@@ -86,9 +89,10 @@ module _ (h : Header) (n : List ℕ) (b : Bounded h) (free : (not (is_new h.name
       go true = record { steps = b.steps; threads = every_set (λ k. k ≤ 4294967295) h.threads h.names.held 0 b.threads (omega arith) }
       go false = b
 
-  pub registered-below : get_or (registered h n).threads (slot h.names n) 0 < 4294967295
+  pub registered-below : (not (is_new h.names n) && eqb (get_or h.threads (slot h.names n) 0) 4294967295) ≡ false
+      → get_or (registered h n).threads (slot h.names n) 0 < 4294967295
   unfolding register
-  registered-below = go (is_new h.names n) refl free
+  registered-below free = go (is_new h.names n) refl free
     where
       go : (t : Bool) → is_new h.names n ≡ t → (not t && eqb (get_or h.threads (slot h.names n) 0) 4294967295) ≡ false
           → get_or (cond t (register h n) h).threads (slot h.names n) 0 < 4294967295
@@ -98,13 +102,20 @@ module _ (h : Header) (n : List ℕ) (b : Bounded h) (free : (not (is_new h.name
           = subst (λ (i : ℕ). get_or (set h.threads h.names.held 0) i 0 ≡ 0) (sym (eqb-true _ _ e)) (zero-there h.threads h.names.held) in
           omega arith
 
-module _ (m : Machine) (given body : List ℕ) (origin place : ℕ) (b : Bounded m.header) where
-  pub loaded-bounded : first (load_checks m given body place) ≡ accepted → Bounded (loaded m (called given) body origin place).machine.header
-  unfolding loaded
-  loaded-bounded e =
-      let free = (passed (load_checks m given body place) e).1.1.1.1.1.1.0 in
-      started-bounded _ (slot m.header.names (called given)) (placing m given body place) (registered-below m.header (called given) b free)
-      (registered-bounded m.header (called given) b free)
+-- a body placed, and a process started
+module _ (m : Machine) (given : List ℕ) (at : ℕ) (b : Bounded m.header) where
+  pub placing-bounded : (body : List ℕ) → Bounded (placing m (called given) body at).machine.header
+  unfolding placing
+  placing-bounded body = registered-bounded m.header (called given) b
 
-  pub load-bounded : Bounded (load m given body origin place).machine.header
-  load-bounded = load-by-cases m given body origin place (λ o. Bounded o.machine.header) (λ n v e x. b) loaded-bounded
+  pub place-bounded : (body : List ℕ) → Bounded (place m given body at).machine.header
+  place-bounded body = place-by-cases m given body at (λ o. Bounded o.machine.header) (λ n v e x. b) (λ e. placing-bounded body)
+
+  pub starting-bounded : Startable m given at → Bounded (starting m (called given) at).machine.header
+  unfolding starting
+  starting-bounded l =
+      started-bounded at (slot m.header.names (called given)) (naming m given m.core) (registered-below m.header (called given) b l.number)
+      (registered-bounded m.header (called given) b)
+
+  pub start-bounded : Bounded (start m given at).machine.header
+  start-bounded = start-by-cases m given at (λ o. Bounded o.machine.header) (λ n v e x. b) (λ e. starting-bounded (startable m given at e))

@@ -1,4 +1,4 @@
--- How a step and a load that passed their checks change the entries of each name, and what a step's answer says of them.
+-- How a step, a body placed and a process started change the entries of each name, and what a step's answer says of them.
 -- Assumes nothing.
 use Prim.Native.Nat.{ℕ, ◌+◌, ◌*◌, ◌≤◌, ◌<◌}
 use mathlib.Core.Path.{◌≡◌, refl, sym, ap, subst, ◌∙◌}
@@ -11,20 +11,22 @@ use borrow.Author.Tests.{ne_eqb}
 use Rattle.laws.specs.Lists.{one_if, same}
 use Rattle.laws.proofs.Same.{same_refl}
 use Rattle.answer.specs.Numbers.{Told, gives}
-use Rattle.offset.specs.Offset.{ahead}
 use Rattle.metadata.specs.Metadata.{called}
 use Rattle.metadata.proofs.Names.{called-valid}
 use Rattle.machine.specs.declared.Entry.{Entry}
 use Rattle.machine.specs.State.{Machine, Outcome}
 use Rattle.machine.specs.Names.{slot, is_new, numbered}
 use Rattle.machine.specs.Queue.{entry, name_of, entries_of, front, full, pop, push, started}
-use Rattle.machine.specs.Load.{origin_of, loaded}
+use Rattle.machine.specs.Place.{placing}
+use Rattle.machine.specs.Start.{starting}
 use Rattle.machine.specs.Execution.{Ending, dat, divisor, Next, ends, goes, splits}
 use Rattle.machine.specs.Step.{popped, pc, effect, core_after, Queued, queued, end_told, next_told, executed, step, executes}
 use Rattle.machine.proofs.Names.{Shape, Held, count_at}
 use Rattle.machine.proofs.Soundness.{SoundHeader, counts-long, room, push-sound, registered-new}
 use Rattle.machine.proofs.Agreement.{Agree, pop-entries, pop-agree, pop-held, push-entries, push-agree, push-held, counted-agree, counted-entries, counted-held, started-entries, started-agree, is-registered}
-use Rattle.machine.proofs.Load.{Loadable, placing, placing-room, placing-sound, placing-held}
+use Rattle.machine.proofs.Registering.{naming, naming-room, naming-sound, naming-held}
+use Rattle.machine.proofs.Place.{Placeable, core-placed}
+use Rattle.machine.proofs.Start.{Startable}
 use Rattle.machine.proofs.Queueing.{queued-by-cases, any-places}
 use Rattle.machine.proofs.Step.{step-by-cases, Ready, ready, front-held, counting, counting-sound, counting-free}
 
@@ -86,36 +88,44 @@ stepped m r a =
           omega arith;
     }
 
--- a load that passed its checks: one entry of its name more, and no other name held than before
-pub record Begun (m : Machine) (t : List ℕ) (m' : Machine) : Type 0 where
+-- a name registered that was not held, and k entries of it more
+pub record Named (m : Machine) (t : List ℕ) (k : ℕ) (m' : Machine) : Type 0 where
   pub agree : Agree m'
   pub names : (n : List ℕ) → is_new m'.header.names n ≡ (is_new m.header.names n && not (same t n))
-  pub entries : (n : List ℕ) → entries_of m' n ≡ entries_of m n + one_if (same t n)
+  pub entries : (n : List ℕ) → entries_of m' n ≡ entries_of m n + k * one_if (same t n)
+
+-- a body placed that passed the checks: no entry more
+pub place-named : (m : Machine) (given body : List ℕ) (at : ℕ) → SoundHeader m → Agree m → Placeable m given body at
+    → Named m (called given) 0 (placing m (called given) body at).machine
+unfolding placing
+place-named m given body at s a l =
+    let t = called given in
+    let fits = (called-valid given l.valid).0 in
+    let g = is-registered m t s a (core-placed m given body at) l.free fits in
+    record { agree = g.agree; names = registered-new m t s l.free fits; entries = λ n. let e = g.entries n in omega arith }
 
 started-names : (place i : ℕ) (m : Machine) (n : List ℕ) → is_new (started place i m).header.names n ≡ is_new m.header.names n
 unfolding started push numbered
 started-names place i m n = refl
 
-pub begun : (m : Machine) (given body : List ℕ) (origin place : ℕ) → SoundHeader m → Agree m → Loadable m given body place
-    → Begun m (called given) (loaded m (called given) body origin place).machine
-unfolding loaded
-begun m given body origin place s a l =
+-- a process started that passed the checks: one entry of its name more
+pub start-named : (m : Machine) (given : List ℕ) (at : ℕ) → SoundHeader m → Agree m → Startable m given at
+    → Named m (called given) 1 (starting m (called given) at).machine
+unfolding starting
+start-named m given at s a l =
     let t = called given in
     let i = slot m.header.names t in
-    let p = ahead m.header.rules.size place (origin_of origin) in
-    let n = placing m given body place in
-    let g = is-registered m t s a n.core l.free fits in
-    let b = placing-sound m given body place s l in
-    let h = placing-held m given body place s l in
-    let left = placing-room m given body place s l in
+    let n = naming m given m.core in
+    let fits = (called-valid given l.valid).0 in
+    let g = is-registered m t s a m.core l.free fits in
+    let b = naming-sound m given m.core s l.valid l.free s.core in
+    let h = naming-held m given m.core s l.valid l.free in
+    let left = naming-room m given m.core s l.valid l.free l.less s.core in
     record {
-      agree = started-agree p i n t b h g.agree left;
-      names = λ x. started-names p i n x ∙ registered-new m t s l.free fits x;
-      entries = λ x. started-entries p i n t b h g.agree left x ∙ ap (λ (k : ℕ). k + one_if (same t x)) (g.entries x);
+      agree = started-agree at i n t b h g.agree left;
+      names = λ x. started-names at i n x ∙ registered-new m t s l.free fits x;
+      entries = λ x. let e = started-entries at i n t b h g.agree left x in let f = g.entries x in omega arith;
     }
-  where
-    fits : length (called given) ≤ 32
-    fits = (called-valid given l.valid).0
 
 -- the answer is 0 exactly where the popped entry's name has entries left
 module _ (e : Entry) (m : Machine) (t : List ℕ) (s : SoundHeader m) (r : Held m.header e.name t) (a : Agree m)

@@ -113,3 +113,14 @@ pub record Refused (m : Machine) (o : Outcome) : Type 0 where
 
 pub refused : (n v : ℕ) (m : Machine) (o : Outcome) → Refused m (settle (refusal n v) m o)
 refused n v m o = record { machine = refl; writes = refl; steps = refl; pushes = refl }
+
+-- a call with an order of checks is refused and leaves the machine as it was, or it is accepted
+pub settle-by-cases : (Q : ℕ → Type 0) (cs : List Check) (m : Machine) (o : Outcome) → Numbers Q cs → (P : Outcome → Type 0)
+    → ((n v : ℕ) → first cs ≡ refusal n v → Q n → P (settle (refusal n v) m o))
+    → (first cs ≡ accepted → P o)
+    → P (settle (first cs) m o)
+settle-by-cases Q cs m o h P r a = go (first cs) refl
+  where
+    go : (v : Verdict) → first cs ≡ v → P (settle v m o)
+    go accepted e = a e
+    go (refusal n v) e = r n v e (number_of Q cs h n v e)

@@ -1,4 +1,4 @@
--- A machine that is sound all through is answered no 9 by load, step and run, and 0 by cell reading.
+-- A machine that is sound all through is answered no 9 by place, start, step and run, and 0 by cell reading.
 -- Assumes nothing.
 use Prim.Native.Nat.{ℕ}
 use mathlib.Core.Path.{◌≡◌, refl, sym, ap, ◌∙◌}
@@ -12,13 +12,15 @@ use Rattle.offset.specs.Offset.{euclid}
 use Rattle.offset.proofs.Offsets.{euclid-lt}
 use Rattle.machine.specs.State.{Machine}
 use Rattle.machine.specs.Queue.{front}
-use Rattle.machine.specs.Load.{load_checks, load}
+use Rattle.machine.specs.Place.{place_checks, place}
+use Rattle.machine.specs.Start.{start_checks, start}
 use Rattle.machine.specs.Step.{pc, step_checks, step, executes}
 use Rattle.machine.specs.Run.{Ceiling, run, read}
 use Rattle.machine.proofs.Checks.{other, Without, others, without}
 use Rattle.machine.proofs.Soundness.{header-sound, size-positive, entry-sound}
 use Rattle.machine.proofs.Pointers.{cell-at}
-use Rattle.machine.proofs.Load.{is-loaded, load-by-cases}
+use Rattle.machine.proofs.Place.{is-placed, place-by-cases}
+use Rattle.machine.proofs.Start.{is-started, start-by-cases}
 use Rattle.machine.proofs.Step.{seen-sound, is-executed, step-by-cases, nonzero}
 use Rattle.machine.proofs.Run.{run-answers}
 use Rattle.machine.proofs.SoundMachine.{SoundMachine, sound-ready, step_keeps}
@@ -42,15 +44,24 @@ module _ (m : Machine) (s : SoundMachine m) where
       step-by-cases (λ o. o.number ≡ 9 → ⊥) m (λ n v e x. without 9 (step_checks m) step-without-nine n v e)
       (λ e z. true≢false (sym (is-executed m).executes ∙ ap executes z))
 
-  load-without-nine : (given body : List ℕ) (place : ℕ) → Without 9 (load_checks m given body place)
-  load-without-nine given body place =
-      inl (ap not (header-sound m s.header)) and λ a. others 9 (drop 1 (load_checks m given body place)) refl
+  place-without-nine : (given body : List ℕ) (at : ℕ) → Without 9 (place_checks m given body at)
+  place-without-nine given body at =
+      inl (ap not (header-sound m s.header)) and λ a. others 9 (drop 1 (place_checks m given body at)) refl
 
-  pub load-not-nine : (given body : List ℕ) (origin place : ℕ) → (load m given body origin place).number ≡ 9 → ⊥
-  load-not-nine given body origin place =
-      load-by-cases m given body origin place (λ o. o.number ≡ 9 → ⊥)
-      (λ n v e x. without 9 (load_checks m given body place) (load-without-nine given body place) n v e)
-      (λ e. other (rw (is-loaded m given body origin place).number tt))
+  pub place-not-nine : (given body : List ℕ) (at : ℕ) → (place m given body at).number ≡ 9 → ⊥
+  place-not-nine given body at =
+      place-by-cases m given body at (λ o. o.number ≡ 9 → ⊥)
+      (λ n v e x. without 9 (place_checks m given body at) (place-without-nine given body at) n v e)
+      (λ e. other (rw (is-placed m given body at).number tt))
+
+  start-without-nine : (given : List ℕ) (at : ℕ) → Without 9 (start_checks m given at)
+  start-without-nine given at = inl (ap not (header-sound m s.header)) and λ a. others 9 (drop 1 (start_checks m given at)) refl
+
+  pub start-not-nine : (given : List ℕ) (at : ℕ) → (start m given at).number ≡ 9 → ⊥
+  start-not-nine given at =
+      start-by-cases m given at (λ o. o.number ≡ 9 → ⊥)
+      (λ n v e x. without 9 (start_checks m given at) (start-without-nine given at) n v e)
+      (λ e. other (rw (is-started m given at).number tt))
 
 pub run-not-nine : (c : Ceiling) (m : Machine) → SoundMachine m → (run c m).number ≡ 9 → ⊥
 run-not-nine c m s = run-answers SoundMachine step_keeps (λ n. n ≡ 9 → ⊥) (other tt) step-not-nine c m (header-sound m s.header) s

@@ -1,4 +1,4 @@
--- The machine that is sound all through, its counts those of its entries: fresh makes it; load, step and run keep it.
+-- The machine that is sound all through, its counts those of its entries: fresh makes it; place, start, step and run keep it.
 -- Assumes nothing.
 use Prim.Native.Nat.{ℕ, ◌/◌, ◌^◌, ◌≤◌, ◌<◌}
 use mathlib.Core.Path.{◌≡◌, refl, sym, subst, ◌∙◌}
@@ -13,8 +13,6 @@ use Rattle.laws.proofs.Tests.{both}
 use Rattle.laws.proofs.Every.{Every, every-replicate}
 use Rattle.laws.proofs.Same.{same_refl}
 use Rattle.cell.specs.Cells.{fresh_cell, sound_word}
-use Rattle.offset.specs.Offset.{ahead}
-use Rattle.offset.proofs.Offsets.{ahead-lt}
 use Rattle.metadata.specs.Metadata.{called}
 use Rattle.machine.specs.declared.Entry.{Entry}
 use Rattle.machine.specs.declared.Rules.{Rules}
@@ -23,7 +21,8 @@ use Rattle.machine.specs.Names.{slot, numbered}
 use Rattle.machine.specs.Queue.{entry, packed_entry, unpacked_entry, entries, name_of, entries_of, front, full, pop, push, started}
 use Rattle.machine.specs.Soundness.{fresh_checks}
 use Rattle.machine.specs.Fresh.{fresh}
-use Rattle.machine.specs.Load.{origin_of, loaded, load_checks, load}
+use Rattle.machine.specs.Place.{placing, place}
+use Rattle.machine.specs.Start.{starting, start}
 use Rattle.machine.specs.Execution.{Next}
 use Rattle.machine.specs.Step.{popped, effect, counted, queued, executed, step_checks, step}
 use Rattle.machine.specs.Run.{Ceiling, run}
@@ -31,16 +30,18 @@ use Rattle.machine.proofs.Checks.{accepted-passes}
 use Rattle.machine.proofs.Entries.{packed-place, packed-top}
 use Rattle.machine.proofs.Queue.{tally-pop, every-pop, every-push}
 use Rattle.machine.proofs.Names.{held_at, count_at}
-use Rattle.machine.proofs.Soundness.{is-taken, SoundHeader, size-positive, size_small, counts-long, room, push-sound, numbered-sound, holding}
+use Rattle.machine.proofs.Soundness.{is-taken, SoundHeader, size_small, counts-long, room, push-sound, numbered-sound, holding}
 use Rattle.machine.proofs.Agreement.{Agree}
 use Rattle.machine.proofs.Pointers.{SoundCore}
 use Rattle.machine.proofs.Execution.{Places}
 use Rattle.machine.proofs.Fresh.{fresh-accepted}
-use Rattle.machine.proofs.Load.{Loadable, loadable, is-loaded, placing, placing-room, placing-rules, placing-entries, placing-sound, load-by-cases, loaded-sound, loaded-core-sound}
+use Rattle.machine.proofs.Registering.{naming, naming-room, naming-rules, naming-entries, naming-sound}
+use Rattle.machine.proofs.Place.{Placeable, placeable, is-placed, core-placed, place-by-cases, placing-sound, placing-core-sound}
+use Rattle.machine.proofs.Start.{Startable, startable, is-started, start-by-cases, starting-sound}
 use Rattle.machine.proofs.Queueing.{queued-by-cases}
 use Rattle.machine.proofs.Step.{next-places, executed-core-sound, is-executed, step-by-cases, Ready, step-some, counting, counting-sound, counting-free, executed-sound}
-use Rattle.machine.proofs.Bounds.{Bounded, blank-bounded, executed-bounded, loaded-bounded}
-use Rattle.machine.proofs.ByName.{stepped, begun}
+use Rattle.machine.proofs.Bounds.{Bounded, blank-bounded, executed-bounded, placing-bounded, starting-bounded}
+use Rattle.machine.proofs.ByName.{stepped, place-named, start-named}
 use Rattle.machine.proofs.Run.{run-keeps}
 
 -- an entry's place is in the core, and its other bits are zero
@@ -132,33 +133,51 @@ step_keeps m s = step-by-cases (λ o. SoundMachine o.machine) m (λ n v e x. s) 
 pub run-keeps-sound : (c : Ceiling) (m : Machine) → SoundMachine m → SoundMachine (run c m).machine
 run-keeps-sound c m s = run-keeps SoundMachine step_keeps c m s
 
--- a load keeps it
-module _ (m : Machine) (given body : List ℕ) (origin place : ℕ) (s : SoundMachine m) where
-  abbrev before : Machine
-  before = placing m given body place
+-- a body placed and a process started keep it
+module _ (m : Machine) (given : List ℕ) (at : ℕ) (s : SoundMachine m) where
+  module _ (body : List ℕ) where
+    placing-inside : Every (Inside m.header.rules.size) (entries (placing m (called given) body at).machine)
+    unfolding placing
+    placing-inside = rw (naming-entries m given (core-placed m given body at)) s.entries
 
-  loaded-inside : Loadable m given body place → Every (Inside before.header.rules.size) (entries (loaded m (called given) body origin place).machine)
-  unfolding loaded
-  loaded-inside l =
-      started-inside (ahead m.header.rules.size place (origin_of origin)) (slot m.header.names (called given)) before
-      (placing-sound m given body place s.header l) (placing-room m given body place s.header l)
-      (rw (placing-rules m given body place) (ahead-lt m.header.rules.size place (origin_of origin) (size-positive m s.header)))
-      (rw (placing-entries m given body place, placing-rules m given body place) s.entries)
+    placing-keeps : Placeable m given body at → SoundMachine (placing m (called given) body at).machine
+    placing-keeps l =
+        let i = is-placed m given body at in
+        record {
+          header = placing-sound m given body at s.header l;
+          numbers = placing-bounded m given at s.numbers body;
+          agree = (place-named m given body at s.header s.agree l).agree;
+          core = rw i.rules (placing-core-sound m given body at l s.core);
+          entries = rw i.rules placing-inside;
+        }
 
-  loaded-keeps : first (load_checks m given body place) ≡ accepted → SoundMachine (loaded m (called given) body origin place).machine
-  loaded-keeps e =
-      let l = loadable m given body place e in
-      let i = is-loaded m given body origin place in
+    pub place-keeps : SoundMachine (place m given body at).machine
+    place-keeps = place-by-cases m given body at (λ o. SoundMachine o.machine) (λ n v e x. s) (λ e. placing-keeps (placeable m given body at e))
+
+  abbrev named : Machine
+  named = naming m given m.core
+
+  starting-inside : Startable m given at → Every (Inside named.header.rules.size) (entries (starting m (called given) at).machine)
+  unfolding starting
+  starting-inside l =
+      started-inside at (slot m.header.names (called given)) named (naming-sound m given m.core s.header l.valid l.free s.header.core)
+      (naming-room m given m.core s.header l.valid l.free l.less s.header.core)
+      (rw (naming-rules m given m.core) l.inside)
+      (rw (naming-entries m given m.core, naming-rules m given m.core) s.entries)
+
+  starting-keeps : Startable m given at → SoundMachine (starting m (called given) at).machine
+  starting-keeps l =
+      let i = is-started m given at in
       record {
-        header = loaded-sound m given body origin place s.header l;
-        numbers = loaded-bounded m given body origin place s.numbers e;
-        agree = (begun m given body origin place s.header s.agree l).agree;
-        core = rw i.rules (loaded-core-sound m given body origin place l s.core);
-        entries = rw i.rules (rw (placing-rules m given body place) at (loaded-inside l));
+        header = starting-sound m given at s.header l;
+        numbers = starting-bounded m given at s.numbers l;
+        agree = (start-named m given at s.header s.agree l).agree;
+        core = rw (i.rules, i.core) s.core;
+        entries = rw i.rules (rw (naming-rules m given m.core) at (starting-inside l));
       }
 
-  pub load-keeps : SoundMachine (load m given body origin place).machine
-  load-keeps = load-by-cases m given body origin place (λ o. SoundMachine o.machine) (λ n v e x. s) loaded-keeps
+  pub start-keeps : SoundMachine (start m given at).machine
+  start-keeps = start-by-cases m given at (λ o. SoundMachine o.machine) (λ n v e x. s) (λ e. starting-keeps (startable m given at e))
 
 -- fresh makes one
 pub fresh-sound : (rules : Rules) (core queue : List ℕ) → (fresh rules core queue).number ≡ 0 → SoundMachine (fresh rules core queue).machine

@@ -18,13 +18,13 @@ use Rattle.answer.specs.Numbers.{Told, gives}
 use Rattle.cell.specs.declared.Cell.{Cell}
 use Rattle.cell.specs.Cells.{sound_word}
 use Rattle.types.specs.Opcode.{LDP, STP}
-use Rattle.machine.specs.State.{Machine, Outcome, Verdict, accepted, refusal, first, settle}
+use Rattle.machine.specs.State.{Machine, Outcome, accepted, refusal, first, settle}
 use Rattle.machine.specs.Queue.{front, name_of, full, pop}
 use Rattle.machine.specs.Pointers.{Site}
 use Rattle.machine.specs.Execution.{Ending, dat, divisor, Next, ends, goes, splits}
 use Rattle.machine.specs.Instruction.{a_operand, b_operand, scene_at, effect_at, store_to, stored_at, seen_at, written_at}
 use Rattle.machine.specs.Step.{popped, pc, site, instruction, operand_a, operand_b, effect, core_after, step_written, step_writes, counted, end_told, next_told, executed, step_checks, step, executes}
-use Rattle.machine.proofs.Checks.{passed, number_of, Refused, refused}
+use Rattle.machine.proofs.Checks.{passed, settle-by-cases, Refused, refused}
 use Rattle.machine.proofs.Names.{Shape, Held, held_at}
 use Rattle.machine.proofs.Soundness.{SoundHeader, counts-long, room, count-most, sound-header, pop-sound, counted-sound, SoundEntry, sound-entry}
 use Rattle.machine.proofs.Pointers.{length-operand, operand-writes, SoundCore, cell_set, fields_at, SoundOperand, operand_sound}
@@ -139,12 +139,8 @@ pub step-by-cases : (P : Outcome → Type 0) (m : Machine)
     → (first (step_checks m) ≡ accepted → P (executed m))
     → P (step m)
 unfolding step
-step-by-cases P m r a = go (first (step_checks m)) refl
-  where
-    go : (v : Verdict) → first (step_checks m) ≡ v → P (settle v m (executed m))
-    go accepted e = a e
-    go (refusal n v) e =
-        r n v e (number_of (λ n. executes n ≡ false) (step_checks m) (refl and refl and refl and refl and refl and refl and refl and tt) n v e)
+step-by-cases P m =
+    settle-by-cases (λ n. executes n ≡ false) (step_checks m) m (executed m) (refl and refl and refl and refl and refl and refl and refl and tt) P
 
 pub step-refused : (m : Machine) → executes (step m).number ≡ false → Refused m (step m)
 step-refused m =

@@ -14,7 +14,8 @@ use Rattle.machine.specs.Names.{register, numbered}
 use Rattle.machine.specs.Queue.{unpacked_entry, entries, pop, push, started}
 use Rattle.machine.specs.Soundness.{sound_header, sound_entry}
 use Rattle.machine.specs.Fresh.{fresh}
-use Rattle.machine.specs.Load.{loaded, load}
+use Rattle.machine.specs.Place.{placing, place}
+use Rattle.machine.specs.Start.{starting, start}
 use Rattle.machine.specs.Pointers.{operand}
 use Rattle.machine.specs.Execution.{effect_of}
 use Rattle.machine.specs.Step.{operand_b, effect, core_after, step_written, counted, executed, step}
@@ -37,9 +38,10 @@ datum a b = bytes DAT modifier.F mode.Direct a mode.Direct b
 abbrev pub cell : ℕ → ℕ → ℕ
 cell a b = word DAT modifier.F mode.Direct a mode.Direct b
 
--- a fresh machine of that size, P and 16 times P entries of queue memory, with a body at 0 and one entry there
+-- a fresh machine of that size, P and 16 times P entries of queue memory, with a body placed at 0 and a process started there
 abbrev pub board : ℕ → ℕ → List ℕ → Machine
-board size processes body = (load (fresh (of_size size processes) (replicate size 0) (replicate (16 * processes) 0)).machine [] body 65535 0).machine
+board size processes body =
+    (start (place (fresh (of_size size processes) (replicate size 0) (replicate (16 * processes) 0)).machine [] body 0).machine [] 0).machine
 
 -- place and thread number of each entry
 abbrev pub threads : List ℕ → List ℕ
@@ -55,7 +57,7 @@ abbrev pub says : ℕ → ℕ → ℕ → List ℕ → List ℕ → List ℕ
 says number value writes told queue = number ∷ value ∷ writes ∷ (told ++ (replicate (8 - length told) fresh_cell ++ queue))
 
 unfoldable pub battles : List Row
-unfolding sound_word lawful lowest_fault cells register numbered entries pop push started sound_header sound_entry fresh loaded load operand effect_of effect core_after step_written counted executed step
+unfolding sound_word lawful lowest_fault cells register numbered entries pop push started sound_header sound_entry fresh placing place starting start operand effect_of effect core_after step_written counted executed step
 battles =
     -- −1 → 7; M 7: −2,147,483,648 → 5; M 46,341: 2,147,483,647 → 41,707
     record { got = euclid (negsuc 0) 8 ∷ euclid (negsuc 2147483647) 7 ∷ euclid (pos 2147483647) 46341 ∷ []; wanted = 7 ∷ 5 ∷ 41707 ∷ [] }

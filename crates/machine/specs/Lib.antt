@@ -3,7 +3,8 @@ pub mod Names
 pub mod Queue
 pub mod Soundness
 pub mod Fresh
-pub mod Load
+pub mod Place
+pub mod Start
 pub mod Pointers
 pub mod Execution
 pub mod Instruction

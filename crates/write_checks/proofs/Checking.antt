@@ -9,8 +9,9 @@ use Rattle.answer.specs.declared.Error.{Error}
 use Rattle.answer.specs.Numbers.{Told, gives, told_error}
 use Rattle.machine.specs.State.{Check, check, Verdict, accepted, refusal, first, verdict_told}
 use Rattle.machine.specs.Soundness.{valid_size}
-use Rattle.load_checks.specs.Refusal.{warrior_checks, warrior_told}
-use Rattle.load_checks.proofs.Warrior.{warrior-refused, warrior-accepted}
+use Rattle.machine.specs.Place.{warrior_checks}
+use Rattle.warrior_checks.specs.Refusal.{warrior_told}
+use Rattle.warrior_checks.proofs.Warrior.{warrior-refused, warrior-accepted}
 use Rattle.write_checks.specs.Refusal.{settle, write_checks, write_told}
 
 abbrev tells : Verdict → Told

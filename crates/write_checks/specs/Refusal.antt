@@ -3,10 +3,9 @@
 use Rattle.std.specs.Prelude.{ℕ, Result, Ok, Err, not, ◌||◌, List, [], ◌∷◌, ◌++◌, leb, ltb, length, drop}
 use Rattle.answer.specs.declared.Error.{Error}
 use Rattle.answer.specs.Numbers.{Told, told_error, gives}
-use Rattle.program.specs.Program.{instructions, lowest_fault}
-use Rattle.metadata.specs.Metadata.{valid_name}
 use Rattle.machine.specs.State.{Check, check, Verdict, accepted, refusal, first}
 use Rattle.machine.specs.Soundness.{valid_size}
+use Rattle.machine.specs.Place.{warrior_checks}
 
 -- the answer, the length written, and the output afterwards
 pub record Written : Type 0 where
@@ -26,12 +25,7 @@ settle (refusal n v) made output = record { told = gives n v; length = 0; output
 -- order of writing past 13: 1, 3, 4, 5, 6. M and a new warrior, beside n others, as a file of that length, in an output of that room
 abbrev pub write_checks : ℕ → ℕ → List ℕ → List ℕ → ℕ → ℕ → ℕ → List Check
 write_checks size n name body place long room =
-    check (not (valid_size size)) 1
-    ∷ check (ltb size (instructions body)) 3
-    ∷ record { applies = ltb (lowest_fault body) (instructions body); number = 4; value = lowest_fault body }
-    ∷ check (not (valid_name name) || leb size place) 5
-    ∷ check (leb 16 n || ltb room long) 6
-    ∷ []
+    check (not (valid_size size)) 1 ∷ (warrior_checks size name body place ++ (check (leb 16 n || ltb room long) 6 ∷ []))
 
 -- the answer alone
 unfoldable pub write_told : ℕ → ℕ → List ℕ → List ℕ → ℕ → ℕ → ℕ → Told

@@ -6,9 +6,9 @@ ghost use Rattle.answer.specs.Numbers.{told};
 ghost use Rattle.write_checks.specs.Refusal.{write_told};
 
 use answer::{Answer, Error};
-use load_checks::warrior_refusal;
 use machine::limits::LARGEST_CORE;
 use metadata::Warrior;
+use warrior_checks::warrior_refusal;
 
 // Whether n warriors with bodies of `rest` bytes, and one more with a body of `len` bytes, are at most 16 and fit the output.
 fn has_room(n: usize, rest: usize, len: usize, room: usize) -> bool
@@ -25,7 +25,7 @@ pub fn refusal(n: usize, rest: usize, size: u32, w: Warrior<'_>, room: usize) ->
     if !(1..=LARGEST_CORE).contains(&size) {
         return Err(Error::InvalidCoreSize);
     }
-    warrior_refusal(size, w)?;
+    warrior_refusal(size, w.name, w.body, w.place)?;
     if !has_room(n, rest, w.body.len(), room) {
         return Err(Error::NoRoom);
     }

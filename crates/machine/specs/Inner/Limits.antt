@@ -12,7 +12,8 @@ use Rattle.machine.specs.Names.{register, numbered}
 use Rattle.machine.specs.Queue.{unpacked_entry, entries, pop, push, started}
 use Rattle.machine.specs.Soundness.{sound_header, sound_entry}
 use Rattle.machine.specs.Fresh.{blank, fresh}
-use Rattle.machine.specs.Load.{loaded, load}
+use Rattle.machine.specs.Place.{placing, place}
+use Rattle.machine.specs.Start.{starting, start}
 use Rattle.machine.specs.Pointers.{fold, operand}
 use Rattle.machine.specs.Execution.{effect_of}
 use Rattle.machine.specs.Step.{effect, core_after, step_written, counted, executed, step}
@@ -25,9 +26,9 @@ limited size read write = record { size = size; read = read; write = write; proc
 abbrev told : Rules → ℕ → ℕ → ℕ
 told rules cells slots = (fresh rules (replicate cells 0) (replicate slots 0)).number
 
--- a fresh machine of these rules, with 16 times P entries of queue memory, a body at a place and one entry there
+-- a fresh machine of these rules, with 16 times P entries of queue memory, a body at a place and a process started there
 abbrev pub board_at : ℕ → Rules → List ℕ → Machine
-board_at place rules body = (load (fresh rules (replicate rules.size 0) (replicate (16 * rules.processes) 0)).machine [] body 65535 place).machine
+board_at at rules body = (start (place (fresh rules (replicate rules.size 0) (replicate (16 * rules.processes) 0)).machine [] body at).machine [] at).machine
 
 -- the same with a word at a place that is no cell
 abbrev broken : ℕ → Machine → Machine
@@ -45,7 +46,7 @@ abbrev jump : ℕ → Rules → ℕ → ℕ → List ℕ → Machine
 jump place rules ma a after = board_at place rules (bytes JMP modifier.B ma a mode.Direct 0 ++ after)
 
 unfoldable pub limits : List Row
-unfolding sound_word lawful lowest_fault cells register numbered entries pop push started sound_header sound_entry fresh loaded load operand effect_of effect core_after step_written counted executed step
+unfolding sound_word lawful lowest_fault cells register numbered entries pop push started sound_header sound_entry fresh placing place starting start operand effect_of effect core_after step_written counted executed step
 limits =
     -- over half, halved downward: limit 4: 2 stays, 3 is −1; limit 5: 2 stays, 3 is −2; limit 2: 1 stays; limit 1: always 0; limit M: mod M
     record {

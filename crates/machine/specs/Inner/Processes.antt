@@ -11,7 +11,8 @@ use Rattle.machine.specs.Names.{register, numbered}
 use Rattle.machine.specs.Queue.{unpacked_entry, entries, pop, push, started}
 use Rattle.machine.specs.Soundness.{sound_header, sound_entry}
 use Rattle.machine.specs.Fresh.{fresh}
-use Rattle.machine.specs.Load.{loaded, load}
+use Rattle.machine.specs.Place.{placing, place}
+use Rattle.machine.specs.Start.{starting, start}
 use Rattle.machine.specs.Pointers.{operand}
 use Rattle.machine.specs.Execution.{effect_of}
 use Rattle.machine.specs.Step.{effect, core_after, step_written, counted, executed, step}
@@ -22,25 +23,25 @@ abbrev made : ℕ → ℕ → ℕ
 made processes slots = (fresh (of_size 1 processes) (0 ∷ []) (replicate slots 0)).number
 
 -- M 8 and 32 entries of queue memory, for a P of 2 at most
-abbrev eight : ℕ → Machine
+abbrev pub eight : ℕ → Machine
 eight processes = (fresh (of_size 8 processes) (replicate 8 0) (replicate 32 0)).machine
 
 -- names A and B, and by a number
-abbrev A : List ℕ
+abbrev pub A : List ℕ
 A = 65 ∷ []
 
-abbrev B : List ℕ
+abbrev pub B : List ℕ
 B = 66 ∷ []
 
-abbrev call : ℕ → List ℕ
+abbrev pub call : ℕ → List ℕ
 call n = (65 + n) ∷ []
 
--- a load of SPL $2 or of DAT, at a place
-abbrev split : List ℕ → ℕ → Machine → Outcome
-split name place m = load m name (bytes SPL modifier.B mode.Direct 2 mode.Direct 0) 65535 place
+-- SPL $2 placed at a place and started there; DAT placed at 7, and started there
+abbrev pub split : List ℕ → ℕ → Machine → Outcome
+split name at m = start (place m name (bytes SPL modifier.B mode.Direct 2 mode.Direct 0) at).machine name at
 
-abbrev dat : List ℕ → Machine → Outcome
-dat name m = load m name (datum 0 0) 65535 7
+abbrev pub dat : List ℕ → Machine → Outcome
+dat name m = start (place m name (datum 0 0) 7).machine name 7
 
 -- the same with another P, or other counts or next thread numbers
 abbrev with_P : ℕ → Machine → Machine
@@ -53,27 +54,27 @@ with_counts counts m =
     let h = m.header in
     under (record { rules = h.rules; ring = h.ring; steps = h.steps; names = h.names; counts = counts; threads = h.threads }) m
 
-abbrev with_threads : List ℕ → Machine → Machine
+abbrev pub with_threads : List ℕ → Machine → Machine
 with_threads threads m =
     let h = m.header in
     under (record { rules = h.rules; ring = h.ring; steps = h.steps; names = h.names; counts = h.counts; threads = threads }) m
 
--- so many names are loaded, one entry each
-abbrev crowded : ℕ → Machine → Machine
+-- so many names are placed under and started, one entry each
+abbrev pub crowded : ℕ → Machine → Machine
 crowded zero m = m
 crowded (suc n) m = (dat (call n) (crowded n m)).machine
 
 -- name index, place and thread number of each entry
-abbrev told : List ℕ → List ℕ
+abbrev pub told : List ℕ → List ℕ
 told [] = []
 told (w ∷ ws) = let e = unpacked_entry w in e.name ∷ e.place.0 ∷ e.thread ∷ told ws
 
 -- what a call gives and leaves: its number and pushes, the entries, and the counts and next thread numbers of the first two names
-abbrev leaves : Outcome → List ℕ
+abbrev pub leaves : Outcome → List ℕ
 leaves o = let h = o.machine.header in o.number ∷ o.pushes ∷ (told (entries o.machine) ++ (take 2 h.counts ++ take 2 h.threads))
 
 unfoldable pub processes : List Row
-unfolding sound_word lawful lowest_fault cells register numbered entries pop push started sound_header sound_entry fresh loaded load operand effect_of effect core_after step_written counted executed step
+unfolding sound_word lawful lowest_fault cells register numbered entries pop push started sound_header sound_entry fresh placing place starting start operand effect_of effect core_after step_written counted executed step
 processes =
     -- fresh: P is 1 to 4,095, with 16 times as many entries or more, of 65,535 at most
     record {
@@ -109,7 +110,7 @@ processes =
       got = leaves (step (dat B (dat B (split A 0 (eight 2)).machine).machine).machine);
       wanted = 0 ∷ 2 ∷ 1 ∷ 7 ∷ 0 ∷ 1 ∷ 7 ∷ 1 ∷ 0 ∷ 1 ∷ 0 ∷ 0 ∷ 2 ∷ 1 ∷ 2 ∷ 2 ∷ 2 ∷ 2 ∷ [];
     }
-    -- load: 6 when the name holds P, 0 of another name; with 16 names of one entry each, P 1: 6 of a held name and of a seventeenth
+    -- start: 6 when the name holds P, 0 of another name; with 16 names of one entry each, P 1: 6 of a held name and of a seventeenth
     ∷ record {
       got =
           (dat A (split A 0 (eight 1)).machine).number
@@ -121,7 +122,7 @@ processes =
           ∷ [];
       wanted = 6 ∷ 0 ∷ 0 ∷ 6 ∷ 0 ∷ 6 ∷ [];
     }
-    -- the last thread number: 8 of a step, also where its child would be dropped; of a load 8, but 6 of a name that holds P
+    -- the last thread number: 8 of a step, also where its child would be dropped; of a start 8, but 6 of a name that holds P
     ∷ record {
       got =
           let one = with_threads (4294967295 ∷ replicate 15 0) (split A 0 (eight 1)).machine in
