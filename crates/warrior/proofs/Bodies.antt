@@ -16,7 +16,7 @@ use Rattle.laws.proofs.Lists.{sets-past, to_end, part-written}
 use Rattle.offset.specs.Offset.{ahead}
 use Rattle.program.specs.Program.{cells}
 use Rattle.program.proofs.Program.{length-cells, cells-from}
-use Rattle.machine.specs.Load.{placed}
+use Rattle.machine.specs.Place.{placed}
 use Rattle.warrior.specs.Tested.{placed_if}
 
 -- a body that fits before the end

@@ -1,4 +1,7 @@
 pub mod Bodies
-pub mod Loading
+pub mod Parts
+pub mod Told
+pub mod Placing
+pub mod Starting
 pub mod Testing
 pub mod Occurring

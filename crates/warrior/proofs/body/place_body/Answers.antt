@@ -1,6 +1,6 @@
--- The goals of `warrior::placing::place_body` that the check leaves.
+-- The goals of `warrior::body::place_body` that the check leaves.
 use Rattle.warrior.proofs.Bodies.{no_place, too_long, in_one, in_two}
-use Rattle.warrior.proofs.placing.place_body.Goals as goal
+use Rattle.warrior.proofs.body.place_body.Goals as goal
 
 pub returns-then-core-place : goal.returns-then-core-place
 returns-then-core-place c = no_place c.args.core.now c.args.place c.args.size c.args.body.now c.if-core-place.true
