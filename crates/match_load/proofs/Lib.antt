@@ -1,3 +1,4 @@
+pub mod Warrior
 pub mod Loading
 pub mod Sound
 pub mod Matches

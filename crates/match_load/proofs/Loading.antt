@@ -2,59 +2,38 @@
 -- Assumes nothing.
 use Prim.Native.Nat.{ℕ, ◌+◌, ◌-◌, ◌≤◌, ◌<◌}
 use mathlib.Core.Path.{◌≡◌, refl, sym, ap, ap₂, subst, ◌∙◌}
-use mathlib.Core.Bool.{Bool, true, false, cond}
+use mathlib.Core.Bool.{Bool, true, false, cond, true≢false}
 use mathlib.Core.List.{List}
 use native.Mathlib.Nat.{add-zero, zero-add, add_assoc, sub-zero}
-use native.Mathlib.Omega.{arith}
 use lib.Dec.{eqb}
 use borrow.Author.Tests.{eq-eqb, ne_eqb}
 use Rattle.laws.proofs.Lists.{fall, done}
-use Rattle.std.proofs.Common.{Option, Some, None}
+use Rattle.std.proofs.Common.{Option, Some, None, Ok, Err}
+use Rattle.std.specs.Result.{is_err}
 use Rattle.answer.specs.declared.Error.{Error}
 use Rattle.answer.specs.Numbers.{Told, gives, Answer, told, told_error}
 use Rattle.answer.proofs.Numbers.{not_zero}
-use Rattle.program.specs.Program.{instructions}
 use Rattle.machine.specs.declared.Header.{Header}
 use Rattle.machine.specs.State as state
 use Rattle.machine.specs.State.{Machine, Outcome, joined, Verdict, accepted, refusal, first}
 use Rattle.machine.specs.Soundness.{sound_header}
-use Rattle.machine.specs.Load.{loaded, load}
-use Rattle.machine.proofs.Soundness.{SoundHeader, size-most}
-use Rattle.machine.proofs.Load.{load-by-cases, load-refused, load-accepted, load-sound}
-use Rattle.warrior.specs.Tested.{load_tested}
-use Rattle.warrior.proofs.Testing.{tested-load}
+use Rattle.machine.proofs.Soundness.{SoundHeader}
 use Rattle.match_format.specs.Faults.{fault}
-use Rattle.match_format.specs.Format.{Warrior}
-use Rattle.match_file.specs.Reading.{told_by, warriors_in, size_in, warrior_of}
+use Rattle.match_file.specs.Reading.{told_by, warriors_in, size_in}
 use Rattle.lent.specs.Parts.{machine_of}
 use Rattle.lent.specs.Given.{Given, given, given_by}
 use Rattle.sim.proofs.Refusals.{refusing}
-use Rattle.match_load.specs.Loading.{Loads, load_warrior, loads, match_checks, after_checks, load_match}
+use Rattle.match_load.specs.Loading.{Loads, place_and_start, loads, match_checks, after_checks, load_match}
+use Rattle.match_load.proofs.Warrior.{no-steps, few-writes, stays-sound}
 
--- what a load of a file's warrior does
-module _ (f : List ℕ) (k : ℕ) (m : Machine) where
-  abbrev w-name : List ℕ
-  w-name = (warrior_of f k).name
+-- an answer that is an error, and one that is not
+pub refused : (answer : Answer) → true ≡ is_err answer → (told answer).number ≡ 0 → ⊥
+refused (Ok _) e = λ z. true≢false e
+refused (Err error) e = not_zero error
 
-  load-steps : (load_warrior f k m).steps ≡ 0
-  unfolding loaded
-  load-steps = load-by-cases m w-name (warrior_of f k).body (warrior_of f k).origin (warrior_of f k).place (λ o. o.steps ≡ 0) (λ n v e x. refl) (λ e. refl)
-
-  refused-writes : ((load_warrior f k m).number ≡ 0 → ⊥) → (load_warrior f k m).writes ≡ 0
-  refused-writes z = (load-refused m w-name (warrior_of f k).body (warrior_of f k).origin (warrior_of f k).place (ne_eqb _ _ z)).writes
-
-  few-writes : SoundHeader m → (load_warrior f k m).number ≡ 0 → (load_warrior f k m).writes ≤ 46341
-  few-writes s z =
-      let a = load-accepted m w-name (warrior_of f k).body (warrior_of f k).origin (warrior_of f k).place z in
-      let l : instructions (warrior_of f k).body ≤ m.header.rules.size = a.0.short in
-      omega (arith, a.1.writes, size-most m s)
-
-  stays-sound : SoundHeader m → SoundHeader (load_warrior f k m).machine
-  stays-sound s = load-sound m w-name (warrior_of f k).body (warrior_of f k).origin (warrior_of f k).place s
-
-  -- of a header that was tested before
-  pub loaded-is : {g : Given} (w : Warrior) → sound_header m ≡ true → w ≡ warrior_of f k → g ≡ given_by (load_tested m w.name w.body w.origin w.place) → g ≡ given_by (load_warrior f k m)
-  loaded-is w s is e = e ∙ ap given_by (tested-load m w.name w.body w.origin w.place s ∙ ap (λ (x : Warrior). load m x.name x.body x.origin x.place) is)
+pub taken : (answer : Answer) → false ≡ is_err answer → (told answer).number ≡ 0
+taken (Ok _) e = refl
+taken (Err error) e = absurd (true≢false (sym e))
 
 -- loads that stopped, as the code gives them, with the number of the warrior
 pub stopping : {answer A : Answer} {writes w steps : ℕ} {g h : Header} {warrior k : ℕ} (core queue : List ℕ) {X : Given} {y : ℕ}
@@ -70,10 +49,10 @@ after w l = given (state.told_by l.outcome) (w + l.outcome.writes) l.outcome.ste
 abbrev pub Leaves : ℕ → Loads → Loads → Type 0
 Leaves w rest all = (after w rest ≡ given_by all.outcome) × (rest.warrior ≡ all.warrior)
 
--- one turn of the loop over the warriors: the load of warrior i
-module _ (f : List ℕ) (i : ℕ) (m : Machine) (t : Told) {writes steps : ℕ} (n : Machine) (gave : given t writes steps n ≡ given_by (load_warrior f i m)) where
+-- one turn of the loop over the warriors: warrior i placed and started
+module _ (f : List ℕ) (i : ℕ) (m : Machine) (t : Told) {writes steps : ℕ} (n : Machine) (gave : given t writes steps n ≡ given_by (place_and_start f i m)) where
   abbrev o : Outcome
-  o = load_warrior f i m
+  o = place_and_start f i m
 
   told_is : t ≡ state.told_by o
   told_is = ap (λ (x : Given). x.told) gave
@@ -84,8 +63,8 @@ module _ (f : List ℕ) (i : ℕ) (m : Machine) (t : Told) {writes steps : ℕ} 
   zero_is : t.number ≡ 0 → o.number ≡ 0
   zero_is z = sym (ap (λ (x : Told). x.number) told_is) ∙ z
 
-  pub few-more : SoundHeader m → t.number ≡ 0 → writes ≤ 46341
-  few-more s z = subst (λ (x : ℕ). x ≤ 46341) (sym (ap (λ (x : Given). x.writes) gave)) (few-writes f i m s (zero_is z))
+  pub few-more : SoundHeader m → writes ≤ 46341
+  few-more s = subst (λ (x : ℕ). x ≤ 46341) (sym (ap (λ (x : Given). x.writes) gave)) (few-writes f i m s)
 
   pub still-sound : SoundHeader m → SoundHeader n
   still-sound s = subst SoundHeader (sym machine-is) (stays-sound f i m s)
@@ -101,12 +80,12 @@ module _ (f : List ℕ) (i : ℕ) (m : Machine) (t : Told) {writes steps : ℕ} 
     opened : loads f i (count - i) m ≡ turn (eqb o.number 0)
     opened = ap (λ (k : ℕ). loads f i k m) (fall count i below)
 
-    pub load-stops : (t.number ≡ 0 → ⊥) → (given t w 0 n ≡ given_by all.outcome) × (i ≡ all.warrior)
+    pub load-stops : (t.number ≡ 0 → ⊥) → (given t (w + writes) 0 n ≡ given_by all.outcome) × (i ≡ all.warrior)
     load-stops z =
         let not-zero : o.number ≡ 0 → ⊥ = λ q. z (ap (λ (x : Told). x.number) told_is ∙ q) in
         let e = opened ∙ ap turn (ne_eqb o.number 0 not-zero) in (
-          ap₂ (λ (t : Told) (k : Machine). given t w 0 k) told_is machine-is
-              ∙ ap₂ (λ (a b : ℕ). given (state.told_by o) a b o.machine) (sym (ap (λ (x : ℕ). w + x) (refused-writes f i m not-zero) ∙ add-zero w)) (sym (load-steps f i m))
+          ap₂ (λ (t : Told) (k : Machine). given t (w + writes) 0 k) told_is machine-is
+              ∙ ap₂ (λ (a b : ℕ). given (state.told_by o) a b o.machine) (ap (λ (x : Given). w + x.writes) gave) (sym (no-steps f i m))
               ∙ sym (ap (after w) e)
               ∙ left.0,
           sym (ap (λ (l : Loads). l.warrior) e) ∙ left.1,
@@ -117,7 +96,7 @@ module _ (f : List ℕ) (i : ℕ) (m : Machine) (t : Told) {writes steps : ℕ} 
         let e = opened ∙ ap turn (eq-eqb o.number 0 (zero_is z)) in (
           ap₂ (λ (x : ℕ) (k : Machine). after (w + x) (loads f (i + 1) (count - (i + 1)) k)) (ap (λ (x : Given). x.writes) gave) machine-is
               ∙ ap₂ (λ (a b : ℕ). given (state.told_by more.outcome) a b more.outcome.machine) (add_assoc w o.writes more.outcome.writes)
-              (sym (ap (λ (s : ℕ). s + more.outcome.steps) (load-steps f i m) ∙ zero-add more.outcome.steps))
+              (sym (ap (λ (s : ℕ). s + more.outcome.steps) (no-steps f i m) ∙ zero-add more.outcome.steps))
               ∙ sym (ap (after w) e)
               ∙ left.0,
           ap (λ (k : Machine). (loads f (i + 1) (count - (i + 1)) k).warrior) machine-is ∙ sym (ap (λ (l : Loads). l.warrior) e) ∙ left.1,

@@ -1,12 +1,14 @@
 -- What placing gives past the test of the header: its refusals in their order, and a body that passes the checks.
 -- Assumes nothing.
 use mathlib.Core.Path.{◌≡◌, refl, sym, ap, ap₂, ◌∙◌}
-use mathlib.Core.Bool.{cond}
+use mathlib.Core.Bool.{false, cond, true≢false}
 use mathlib.Core.List.{List, []}
 use Prim.Native.Nat.{ℕ, ◌≤◌, ◌<◌}
 use borrow.Author.Tests.{leb-false, ltb-false, not-false}
 use Rattle.answer.specs.Numbers.{Told, gives}
 use Rattle.laws.proofs.Tests.{neither}
+use Rattle.laws.proofs.Every.{◌and◌}
+use lib.Dec.{eqb}
 use Rattle.program.specs.Program.{instructions, cells}
 use Rattle.metadata.specs.Metadata.{called}
 use Rattle.metadata.proofs.Names.{called-valid}
@@ -16,7 +18,7 @@ use Rattle.machine.specs.declared.Roster.{Roster}
 use Rattle.machine.specs.declared.Rules.{Rules}
 use Rattle.machine.specs.State.{Machine, under, with_core, with_queue, Verdict, accepted, refusal, first, settle}
 use Rattle.machine.specs.Names.{slot, is_new, registered}
-use Rattle.machine.proofs.Checks.{passed}
+use Rattle.machine.proofs.Checks.{passed, settle-by-cases}
 use Rattle.lent.specs.Parts.{machine_of, header_of, parts, named_of, register_if}
 use Rattle.lent.specs.Given.{Given, given, given_by}
 use Rattle.warrior_checks.specs.Refusal.{tested_place_checks, place_told}
@@ -87,3 +89,13 @@ module _ (core queue : List ℕ) (rules : Rules) (names : Roster) (p : Processes
           ≡ given_by (settle v (parts core queue rules names p) (placing_if (parts core queue rules names p) (called name) body at))
       go accepted = refl
       go (refusal n v) = refl
+
+-- accepted: the checks told that it fits
+pub place-fits : (m : Machine) (given body : List ℕ) (at : ℕ) → (place_tested m given body at).number ≡ 0
+    → Fitting m.header.rules.size m.header.names given body at
+unfolding place_tested
+place-fits m given body at =
+    settle-by-cases (λ n. eqb n 0 ≡ false) (tested_place_checks m.header.rules.size m.header.names given body at) m (placing_if m (called given) body at)
+    (refl and refl and refl and refl and refl and tt)
+    (λ o. o.number ≡ 0 → Fitting m.header.rules.size m.header.names given body at)
+    (λ n v e x z. absurd (true≢false (sym (rw z) ∙ x))) (λ e z. fitting m.header.rules.size m.header.names given body at e)
