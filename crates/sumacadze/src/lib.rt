@@ -1,11 +1,12 @@
-// The machine's calls for programs in C and Rust (include/sumacadze.h), whose symbols are in crate `sumacadze_c`: a fresh machine, cell reading, and load, step and run over a header that the caller lends and that is changed in place.
+// The machine's calls for programs in C and Rust (include/sumacadze.h), whose symbols are in crate `sumacadze_c`: a fresh machine, cell reading, and place, start, step and run over a header that the caller lends and that is changed in place.
 #![tactic(auto)]
 
 ghost use Rattle.std.specs.Prelude.{◌≡◌};
 ghost use Rattle.answer.specs.Numbers.{gives};
 ghost use Rattle.cell.specs.Cells.{unpacked};
-ghost use Rattle.machine.specs.Fresh as starting;
-ghost use Rattle.machine.specs.Load as loading;
+ghost use Rattle.machine.specs.Fresh as begins;
+ghost use Rattle.machine.specs.Place as placing;
+ghost use Rattle.machine.specs.Start as starting;
 ghost use Rattle.machine.specs.Run as running;
 ghost use Rattle.machine.specs.Step as one;
 ghost use Rattle.lent.specs.Parts.{machine_of};
@@ -14,7 +15,6 @@ ghost use Rattle.sumacadze.specs.Report.{ceiling_if, cell_of};
 
 use by_value::{ceiling_if, hand_back, in_numbers};
 use machine::{Header, Rules};
-use metadata::Warrior;
 
 mod by_value;
 pub mod file;
@@ -53,8 +53,8 @@ pub struct Reading {
 
 // A fresh machine: fresh cells, zeros in the queue memory, and its header.
 pub fn sumacadze_fresh(rules: Rules, core: &mut [u64], queue: &mut [u64]) -> Fresh
-    ensures { (result.number ≡ (starting.fresh rules core.old queue.old).number)
-        × (machine_of core.new queue.new result.header ≡ (starting.fresh rules core.old queue.old).machine) }
+    ensures { (result.number ≡ (begins.fresh rules core.old queue.old).number)
+        × (machine_of core.new queue.new result.header ≡ (begins.fresh rules core.old queue.old).machine) }
 {
     let s = sim::fresh(rules, core, queue);
     let answer = s.answer;
@@ -92,26 +92,35 @@ pub fn sumacadze_get(core: &[u64], queue: &[u64], header: Header, number: i32) -
     }
 }
 
-// Loads a warrior, lent part by part as C lends it; an empty name is Warrior0.
-pub fn sumacadze_load(
+// Places a body under a name and starts nothing; an empty name is Warrior0.
+pub fn sumacadze_place(
     core: &mut [u64],
-    queue: &mut [u64],
+    queue: &[u64],
     header: &mut Header,
     name: &[u8],
     body: &[u8],
-    origin: u16,
     place: u32,
 ) -> Report
-    ensures { given (gives result.number result.value) result.writes result.steps (machine_of core.new queue.new header.new)
-        ≡ given_by (loading.load (machine_of core.old queue.old header.old) name.now body.now origin place) }
+    ensures { given (gives result.number result.value) result.writes result.steps (machine_of core.new queue.now header.new)
+        ≡ given_by (placing.place (machine_of core.old queue.now header.old) name.now body.now place) }
 {
-    let w = Warrior {
-        name,
-        body,
-        origin,
-        place,
-    };
-    let s = warrior::load(core, queue, *header, w);
+    let s = warrior::place(core, queue, *header, name, body, place);
+    *header = s.header;
+    in_numbers(&s)
+}
+
+// Starts a process under a name at a place of the core; an empty name is Warrior0.
+pub fn sumacadze_start(
+    core: &[u64],
+    queue: &mut [u64],
+    header: &mut Header,
+    name: &[u8],
+    place: u32,
+) -> Report
+    ensures { given (gives result.number result.value) result.writes result.steps (machine_of core.now queue.new header.new)
+        ≡ given_by (starting.start (machine_of core.now queue.old header.old) name.now place) }
+{
+    let s = warrior::start(core, queue, *header, name, place);
     *header = s.header;
     in_numbers(&s)
 }

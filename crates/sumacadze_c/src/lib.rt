@@ -4,8 +4,9 @@
 ghost use Rattle.std.specs.Prelude.{◌≡◌};
 ghost use Rattle.answer.specs.Numbers.{gives};
 ghost use Rattle.cell.specs.Cells.{unpacked};
-ghost use Rattle.machine.specs.Fresh as starting;
-ghost use Rattle.machine.specs.Load as loading;
+ghost use Rattle.machine.specs.Fresh as begins;
+ghost use Rattle.machine.specs.Place as placing;
+ghost use Rattle.machine.specs.Start as starting;
 ghost use Rattle.machine.specs.Run as running;
 ghost use Rattle.machine.specs.Step as one;
 ghost use Rattle.lent.specs.Parts.{machine_of};
@@ -22,8 +23,8 @@ pub mod file;
 // A fresh machine: fresh cells, zeros in the queue memory, and its header.
 #[unsafe(no_mangle)]
 pub extern "C" fn sumacadze_fresh(rules: Rules, core: &mut [u64], queue: &mut [u64]) -> Fresh
-    ensures { (result.number ≡ (starting.fresh rules core.old queue.old).number)
-        × (machine_of core.new queue.new result.header ≡ (starting.fresh rules core.old queue.old).machine) }
+    ensures { (result.number ≡ (begins.fresh rules core.old queue.old).number)
+        × (machine_of core.new queue.new result.header ≡ (begins.fresh rules core.old queue.old).machine) }
 {
     sumacadze::sumacadze_fresh(rules, core, queue)
 }
@@ -37,21 +38,35 @@ pub extern "C" fn sumacadze_get(core: &[u64], queue: &[u64], header: Header, num
     sumacadze::sumacadze_get(core, queue, header, number)
 }
 
-// Loads a warrior, lent part by part as C lends it; an empty name is Warrior0.
+// Places a body under a name and starts nothing; an empty name is Warrior0.
 #[unsafe(no_mangle)]
-pub extern "C" fn sumacadze_load(
+pub extern "C" fn sumacadze_place(
     core: &mut [u64],
-    queue: &mut [u64],
+    queue: &[u64],
     header: &mut Header,
     name: &[u8],
     body: &[u8],
-    origin: u16,
     place: u32,
 ) -> Report
-    ensures { given (gives result.number result.value) result.writes result.steps (machine_of core.new queue.new header.new)
-        ≡ given_by (loading.load (machine_of core.old queue.old header.old) name.now body.now origin place) }
+    ensures { given (gives result.number result.value) result.writes result.steps (machine_of core.new queue.now header.new)
+        ≡ given_by (placing.place (machine_of core.old queue.now header.old) name.now body.now place) }
 {
-    sumacadze::sumacadze_load(core, queue, header, name, body, origin, place)
+    sumacadze::sumacadze_place(core, queue, header, name, body, place)
+}
+
+// Starts a process under a name at a place of the core; an empty name is Warrior0.
+#[unsafe(no_mangle)]
+pub extern "C" fn sumacadze_start(
+    core: &[u64],
+    queue: &mut [u64],
+    header: &mut Header,
+    name: &[u8],
+    place: u32,
+) -> Report
+    ensures { given (gives result.number result.value) result.writes result.steps (machine_of core.now queue.new header.new)
+        ≡ given_by (starting.start (machine_of core.now queue.old header.old) name.now place) }
+{
+    sumacadze::sumacadze_start(core, queue, header, name, place)
 }
 
 // Executes one instruction of the process at the front.
