@@ -97,9 +97,9 @@ fn placing_writes_the_body_and_registers_the_name() {
     let (mut core, mut queue) = memories();
     let mut m = Machine::fresh(rules(), &mut core, &mut queue).unwrap();
     let before = record(&m);
-    assert_eq!(m.place(b"Imp", &[IMP, SPLIT, DAT].concat(), 6), done(3));
+    assert_eq!(m.place(b"Imp", &[DAT, SPLIT, IMP].concat(), 6), done(3));
     let opcodes = [6, 7, 0, 1].map(|at| m.get(at).unwrap().opcode);
-    assert_eq!(opcodes, [1, 15, 0, 0]);
+    assert_eq!(opcodes, [0, 15, 1, 0]);
     assert_eq!(m.core()[1..6], before.1[1..6]);
     assert_eq!(m.queue(), before.2);
     // of no other name, and without a process
@@ -107,10 +107,10 @@ fn placing_writes_the_body_and_registers_the_name() {
     assert_eq!(m.step().answer, Answer::NoRemainingProcesses);
     // an empty body registers, too, and a name is registered once
     assert_eq!(m.place(b"Later", &[], 7), done(0));
-    assert_eq!(m.place(b"Imp", &DAT, 6), done(1));
+    assert_eq!(m.place(b"Imp", &SPLIT, 6), done(1));
     let names = [(&b"Imp"[..], 0), (&b"Later"[..], 0)];
     assert_eq!(m.names().collect::<Vec<_>>(), names);
-    assert_eq!(m.get(6).unwrap().opcode, 0);
+    assert_eq!(m.get(6).unwrap().opcode, 15);
 }
 
 #[test]
