@@ -21,7 +21,7 @@ typedef struct {
 // imp, dwarf, splitter and mixed; then imps of 2 and of 16 names
 extern const battle BATTLES[ALL];
 
-// What a machine is made of: its rules, the queue memory's length, its names and the first one's body, as bytes for a load.
+// What a machine is made of: its rules, the queue memory's length, its names and the first one's body, as bytes to be placed.
 typedef struct {
     uint32_t size, read, write, processes, slots, names, apart, length;
     uint8_t body[12 * M];

@@ -5,7 +5,7 @@
 //   driver count WHO BATTLE N [READ WRITE]
 //                               N steps of one battle by WHO (run, short, which makes runs of 100 steps, plain, pmars, step,
 //                               plain-step), with these limits or both M, for instruction counts; by idle, N calls of run that play nothing; by fresh, one-call,
-//                               known-loads and read-loads N matches loaded, a fresh machine for each, whatever the battle
+//                               known-lines and read-lines N matches loaded, a fresh machine for each, whatever the battle
 //   driver oracle BATTLE N      a battle of N steps as a line for tools/oracle
 #include "matches.h"
 #include "pmars.h"
@@ -154,17 +154,17 @@ static void print_step_row(const step_row *row) {
     printf("step %s %d %.3f %.3f\n", row->b->name, row->b->names, row->step, row->c);
 }
 
-// a load of M instructions, each with a default modifier; ns for each
-static double load_turn(void) {
+// a body of M instructions placed, each with a default modifier; ns for each
+static double place_turn(void) {
     start_of(&begun, &BATTLES[0]);
     for (uint32_t i = 0; i < M; i++)
         put(&begun, i, (line){0, 1, 255, 1, 1, -7, 9});
     library_record(&ours, &begun);
     sumacadze_header_t *h = &ours.header;
     double t = now();
-    sumacadze_report_t r = sumacadze_load(ours.core, M, ours.queue, SLOTS, h, (const uint8_t *)"a", 1, begun.body, 12 * M, 0, 0);
+    sumacadze_report_t r = sumacadze_place(ours.core, M, ours.queue, SLOTS, h, (const uint8_t *)"a", 1, begun.body, 12 * M, 0);
     t = now() - t;
-    demand(r.number == 0, "the load was refused", BATTLES[0].name);
+    demand(r.number == 0, "the body was refused", BATTLES[0].name);
     return t / M;
 }
 
@@ -175,7 +175,7 @@ static double match_turn(const way *w, record *r) {
     for (int i = 0; i < MATCHES; i++)
         all &= load_match_by(w, r);
     t = now() - t;
-    demand(all, "a load was refused", w->name);
+    demand(all, "a warrior was refused", w->name);
     return t / MATCHES;
 }
 
@@ -188,11 +188,11 @@ static void match_turns(double least[WAYS]) {
     }
 }
 
-// all rows, and the time of a load and of each way of loading a match
+// all rows, and the time of placing an instruction and of each way of loading a match
 static run_row run_rows[FOUR][LENGTHS];
 static limits_row limits_rows[FOUR][LEAGUES];
 static step_row step_rows[ALL];
-static double load_time, match_times[WAYS];
+static double place_time, match_times[WAYS];
 
 static void set_rows(void) {
     const long lengths[LENGTHS] = {100, 10000, 100000};
@@ -204,7 +204,7 @@ static void set_rows(void) {
             limits_rows[i][k] = (limits_row){&BATTLES[i], &LEAGUE[k], NEVER, NEVER};
     for (int i = 0; i < ALL; i++)
         step_rows[i] = (step_row){&BATTLES[i], NEVER, NEVER};
-    load_time = NEVER;
+    place_time = NEVER;
     for (int i = 0; i < WAYS; i++)
         match_times[i] = NEVER;
 }
@@ -219,7 +219,7 @@ static void measure_turn(void) {
             limits_row_turn(&limits_rows[i][k]);
     for (int i = 0; i < ALL; i++)
         step_row_turn(&step_rows[i]);
-    shorten(&load_time, load_turn());
+    shorten(&place_time, place_turn());
     match_turns(match_times);
 }
 
@@ -232,7 +232,7 @@ static void print_rows(void) {
             print_limits_row(&limits_rows[i][k]);
     for (int i = 0; i < ALL; i++)
         print_step_row(&step_rows[i]);
-    printf("load instruction %d %.3f\n", M, load_time);
+    printf("place instruction %d %.3f\n", M, place_time);
     for (int i = 0; i < WAYS; i++)
         printf("match %s %d %.3f\n", LOADING[i].name, WARRIORS, match_times[i]);
 }

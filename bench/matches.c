@@ -45,29 +45,34 @@ static bool one_call(record *r) {
     return loads.report.number == SUMACADZE_DONE;
 }
 
-static bool load(record *r, const sumacadze_line_t *l) {
-    return sumacadze_load(r->core, M, r->queue, SLOTS, &r->header, file + l->name_start, l->name_length, file + l->body_start,
-                          l->body_length, l->origin, l->place).number == SUMACADZE_DONE;
+static bool enter(record *r, const sumacadze_line_t *l) {
+    const uint8_t *name = file + l->name_start, *body = file + l->body_start;
+    sumacadze_header_t *h = &r->header;
+    sumacadze_report_t placed =
+        sumacadze_place(r->core, M, r->queue, SLOTS, h, name, l->name_length, body, l->body_length, l->place);
+    sumacadze_report_t started =
+        sumacadze_start(r->core, M, r->queue, SLOTS, h, name, l->name_length, (l->place + l->origin) % M);
+    return placed.number == SUMACADZE_DONE && started.number == SUMACADZE_DONE;
 }
 
-static bool known_loads(record *r) {
+static bool known_lines(record *r) {
     bool all = true;
     for (int k = 0; k < WARRIORS; k++)
-        all &= load(r, &known[k]);
+        all &= enter(r, &known[k]);
     return all;
 }
 
-static bool read_loads(record *r) {
+static bool read_lines(record *r) {
     sumacadze_contents_t contents = sumacadze_read(file, sizeof file);
     bool all = contents.number == SUMACADZE_DONE;
     for (size_t k = 0; k < contents.warriors; k++) {
         sumacadze_line_t l = sumacadze_read_line(file, sizeof file, k);
-        all &= load(r, &l);
+        all &= enter(r, &l);
     }
     return all;
 }
 
-const way LOADING[WAYS] = {{"fresh", nothing}, {"one-call", one_call}, {"known-loads", known_loads}, {"read-loads", read_loads}};
+const way LOADING[WAYS] = {{"fresh", nothing}, {"one-call", one_call}, {"known-lines", known_lines}, {"read-lines", read_lines}};
 
 bool load_match_by(const way *w, record *r) {
     r->size = M, r->slots = SLOTS;

@@ -6,13 +6,14 @@
 
 enum { WARRIORS = 16, BODY = 100, WAYS = 4 };
 
-// one way: its name, and how it loads; whether all was loaded
+// one way: its name, and how it loads; whether nothing was refused
 typedef struct {
     const char *name;
     bool (*load)(record *r);
 } way;
 
-// nothing but the fresh machine; one call; loads of names and bodies that are known; reading the file, then each line and its load
+// nothing but the fresh machine; one call; a place and a start for names and bodies that are known; reading the file, then each
+// line, and its place and start
 extern const way LOADING[WAYS];
 
 // makes the match: so many warriors, each of so many instructions, with names of their own

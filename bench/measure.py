@@ -9,7 +9,7 @@ import sys
 
 BATTLES = ["imp", "dwarf", "splitter", "mixed", "imps of 2 names", "imps of 16 names"]
 # the ways of loading a match, by their names in the driver; the second is what the others are compared with
-WAYS = {"one-call": "one call", "known-loads": "sixteen loads", "read-loads": "sixteen loads, the file read"}
+WAYS = {"one-call": "one call", "known-lines": "sixteen places and starts", "read-lines": "sixteen places and starts, the file read"}
 WARRIORS = 16
 # read and write limits, by their names in the driver; the first are those of a machine without limits
 LEAGUES = ["8000/8000", "2000/2000", "4000/2000"]
@@ -81,7 +81,7 @@ def times(found):
         if kind == "step":
             step, c = figures
             print(f"| {name} | {number} | {step:.1f} | {c:.1f} | {step / c:.2f} |")
-    print(f"\nload, for an instruction: {found['load', 'instruction', 8000][0]:.1f} ns\n", flush=True)
+    print(f"\nplacing an instruction: {found['place', 'instruction', 8000][0]:.1f} ns\n", flush=True)
 
 
 def ratios(figures):
@@ -107,9 +107,9 @@ def matches(found):
     time = {way: found["match", way, WARRIORS][0] - found["match", "fresh", WARRIORS][0] for way in WAYS}
     before = instructions("fresh", 0, 100)
     count = {way: instructions(way, 0, 100) - before for way in WAYS}
-    print("\n| loaded by | ns | instructions | ns, to sixteen loads | instructions, to sixteen loads |\n|---|---|---|---|---|")
+    print("\n| loaded by | ns | instructions | ns, to places and starts | instructions, to places and starts |\n|---|---|---|---|---|")
     for way, name in WAYS.items():
-        ratios = f"{time[way] / time['known-loads']:.3f} | {count[way] / count['known-loads']:.3f}"
+        ratios = f"{time[way] / time['known-lines']:.3f} | {count[way] / count['known-lines']:.3f}"
         print(f"| {name} | {time[way]:,.0f} | {count[way]:,.0f} | {ratios} |", flush=True)
 
 

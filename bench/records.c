@@ -18,8 +18,10 @@ void library_record(record *r, const start *s) {
     r->header = sumacadze_fresh(rules_of(s), r->core, s->size, r->queue, s->slots).header;
     for (uint32_t k = 0; k < s->names; k++) {
         name_of(k, name);
-        sumacadze_load(r->core, s->size, r->queue, s->slots, &r->header, (const uint8_t *)name, strlen(name), s->body,
-                       k ? 0 : 12 * s->length, 0, k * s->apart % s->size);
+        const uint8_t *bytes = (const uint8_t *)name;
+        size_t length = strlen(name), body = k ? 0 : 12 * s->length;
+        sumacadze_place(r->core, s->size, r->queue, s->slots, &r->header, bytes, length, s->body, body, 0);
+        sumacadze_start(r->core, s->size, r->queue, s->slots, &r->header, bytes, length, k * s->apart % s->size);
     }
 }
 

@@ -9,7 +9,8 @@
  * - a memory or header that a call may write overlaps nothing else that the call is given;
  * - nothing else uses them while the call runs.
  * What the bytes say is not the caller's duty: memories, headers, names, bodies and files may hold anything. A refusal
- * changes nothing, except that of a match loaded in one call the warriors before the refused one stand.
+ * changes nothing, except that of a match loaded in one call what was placed and started before the refusal stands: the
+ * warriors before the refused one, and its own body where only its start was refused.
  */
 #ifndef SUMACADZE_H
 #define SUMACADZE_H
@@ -30,7 +31,7 @@ enum {
     SUMACADZE_WARRIOR_TOO_LONG = 3,
     SUMACADZE_INVALID_CODE = 4, /* the lowest index of a faulty instruction */
     SUMACADZE_INVALID_NAME_OR_PLACE = 5,
-    SUMACADZE_NO_ROOM = 6, /* the name holds as many entries as the process limit allows, or is a seventeenth */
+    SUMACADZE_NO_ROOM = 6, /* a seventeenth name, or a start under one that holds as many entries as the process limit allows */
     SUMACADZE_NO_REMAINING_PROCESSES = 7,
     SUMACADZE_NUMBERS_EXHAUSTED = 8,
     SUMACADZE_UNSOUND_RECORD = 9,
@@ -41,6 +42,7 @@ enum {
     SUMACADZE_INVALID_LIMIT = 14 /* the read or the write limit */
 };
 
+/* The last is the origin of a match file's warrior that has none, meaning 0. */
 enum { SUMACADZE_NAMES = 16, SUMACADZE_NAME_BYTES = 32, SUMACADZE_NO_ORIGIN = 65535 };
 
 /* What a fresh machine is given and no call changes: the core's size; how far a process reads and writes from its own
@@ -56,7 +58,7 @@ typedef struct {
     uint32_t head, length;
 } sumacadze_ring_t;
 
-/* The names held. A name has 32 of the bytes, from 32 times its index on. */
+/* The names held, in the order in which they were registered. A name has 32 of the bytes, from 32 times its index on. */
 typedef struct {
     uint32_t held;
     uint8_t bytes[SUMACADZE_NAMES * SUMACADZE_NAME_BYTES];
@@ -84,7 +86,7 @@ typedef struct {
     sumacadze_header_t header;
 } sumacadze_fresh_t;
 
-/* The report of a match's loads, the number, from 0, of the warrior that was refused, else 0, and the header left. */
+/* The report of a match loaded in one call, the number, from 0, of the warrior that was refused, else 0, and the header left. */
 typedef struct {
     sumacadze_report_t report;
     size_t warrior;
@@ -120,14 +122,23 @@ static inline sumacadze_rules_t sumacadze_rules_of_size(uint32_t size, uint32_t 
 sumacadze_fresh_t sumacadze_fresh(sumacadze_rules_t rules, uint64_t *core, size_t core_length, uint64_t *queue,
                                   size_t queue_length);
 
-/* Loads a warrior: its body at a place, a process at the origin (SUMACADZE_NO_ORIGIN is 0). An empty name is Warrior0.
- * Warriors of one name share its process limit. */
-sumacadze_report_t sumacadze_load(uint64_t *core, size_t core_length, uint64_t *queue, size_t queue_length,
-                                  sumacadze_header_t *header, const uint8_t *name, size_t name_length,
-                                  const uint8_t *body, size_t body_length, uint16_t origin, uint32_t place);
+/* Places a body under a name: its cells are written from the place on, going on at cell 0 past the end, and a name that is
+ * not held yet is registered, by an empty body too. Nothing is started: a name that is never started runs nothing. Warriors
+ * of one name share it; an empty name is Warrior0. A name that holds P entries may be placed under. The writes are the
+ * instructions of the body. */
+sumacadze_report_t sumacadze_place(uint64_t *core, size_t core_length, const uint64_t *queue, size_t queue_length,
+                                   sumacadze_header_t *header, const uint8_t *name, size_t name_length,
+                                   const uint8_t *body, size_t body_length, uint32_t place);
 
-/* Loads every warrior of a match file in file order, up to the first refused; those before it stand, with their writes.
- * The header that comes back is the machine's from then on; where nothing was loaded it is the one given. */
+/* Starts a process under a name at any place below the core's size, whatever stands there: an entry with the name's next
+ * thread number is queued behind the others. A name that is not held yet is registered; no name holds more than P entries. */
+sumacadze_report_t sumacadze_start(const uint64_t *core, size_t core_length, uint64_t *queue, size_t queue_length,
+                                   sumacadze_header_t *header, const uint8_t *name, size_t name_length, uint32_t place);
+
+/* Loads every warrior of a match file in file order, up to the first refused: each is placed, and then started at its place
+ * plus its origin, modulo the core's size, before the next is placed. What was placed and started before a refusal stands,
+ * with its writes; so does the body of the refused warrior where it was placed and could not be started.
+ * The header that comes back is the machine's from then on; where nothing was placed it is the one given. */
 sumacadze_loads_t sumacadze_load_match(uint64_t *core, size_t core_length, uint64_t *queue, size_t queue_length,
                                        sumacadze_header_t header, const uint8_t *file, size_t file_length);
 

@@ -1,8 +1,9 @@
 #!/bin/sh
-# Builds the static library and both examples over it, and compares what they print: with bin/play for every file in examples/ and for a few bad ones, and with what the program plays must write for each of its files.
-# Then loads 2,000 matches, damaged ones among them, each in one call, and compares every byte with a model and with the loads made one by one (tools/match_load).
+# Builds the static library and the examples over it, and compares what they print: the two that play with bin/play for every file in examples/ and for a few bad ones, and with what the program plays must write for each of its files; the board with its committed output.
+# Then makes 2,000 lists of place, start and step, damaged records among them, and compares every byte with a model after each call (tools/placing).
+# Then loads 2,000 matches, damaged ones among them, each in one call, and compares every byte with a model and with the places and starts made one by one (tools/match_load).
 # Then makes 2,000 calls of fresh, step and run with read, write and process limits, damaged records among them, and compares every byte with a model (tools/limits).
-# Then loads an instruction without a modifier for each opcode, A mode and B mode byte, and compares it with a model (tools/defaults).
+# Then places an instruction without a modifier for each opcode, A mode and B mode byte, and compares it with a model (tools/defaults).
 # Run as: tests/library.sh. Needs rt, gcc, g++, cargo and python3; no network.
 root=$(dirname -- "$(dirname -- "$(readlink -f -- "$0")")")
 work=$(mktemp -d) || exit 1
@@ -22,6 +23,9 @@ must bin/library
 strict='-Wall -Wextra -Wpedantic -Werror -Iinclude'
 must gcc -std=c11 -O2 $strict -o "$work/play-c" examples/c/play.c target/staticlib/libsumacadze.a
 must gcc -std=c11 -O1 -g -fsanitize=address,undefined $strict -o "$work/play-c-checked" examples/c/play.c target/staticlib/libsumacadze.a
+must gcc -std=c11 -O2 $strict -o "$work/board" examples/c/board.c target/staticlib/libsumacadze.a
+must gcc -std=c11 -O1 -g -fsanitize=address,undefined $strict -o "$work/board-checked" examples/c/board.c target/staticlib/libsumacadze.a
+must gcc -std=c11 -O2 $strict -Itools/match_load -o "$work/call-placing" tools/placing/call.c target/staticlib/libsumacadze.a
 must gcc -std=c11 -O2 $strict -o "$work/call" tools/match_load/call.c target/staticlib/libsumacadze.a
 must gcc -std=c11 -O2 $strict -Itools/match_load -o "$work/call-limits" tools/limits/call.c target/staticlib/libsumacadze.a
 must gcc -std=c11 -O2 $strict -o "$work/call-defaults" tools/defaults/call.c target/staticlib/libsumacadze.a
@@ -58,6 +62,15 @@ for program in "$work/play-c" "$work/play-c-checked" "$work/cargo/release/play";
         printf '%s differs from plays\n' "${program##*/}"
     fi
 done
+for program in "$work/board" "$work/board-checked"; do
+    if "$program" >"$work/shown" && cmp -s examples/c/board.stdout "$work/shown"; then
+        printf '%s prints what examples/c/board.stdout has\n' "${program##*/}"
+    else
+        failed=$((failed + 1))
+        printf '%s differs from examples/c/board.stdout\n' "${program##*/}"
+    fi
+done
+python3 tools/placing/compare.py "$work/call-placing" || failed=$((failed + 1))
 python3 tools/match_load/compare.py "$work/call" || failed=$((failed + 1))
 python3 tools/limits/compare.py "$work/call-limits" || failed=$((failed + 1))
 python3 tools/defaults/compare.py "$work/call-defaults" || failed=$((failed + 1))

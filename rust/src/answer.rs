@@ -11,7 +11,7 @@ pub enum Answer {
     /// The lowest index of a faulty instruction.
     InvalidCode(usize),
     InvalidNameOrPlace,
-    /// The name holds as many entries as the process limit allows, or is a seventeenth.
+    /// A seventeenth name, or a start under one that holds as many entries as the process limit allows.
     NoRoom,
     NoRemainingProcesses,
     NumbersExhausted,

@@ -1,5 +1,5 @@
-//! Safe calls of a Core War machine that is proved in Rattle: a fresh machine, load of a warrior or of a whole match, step,
-//! run and cell reading on memory that the caller owns, and reading a match file.
+//! Safe calls of a Core War machine that is proved in Rattle: a fresh machine, placing a body, starting a process, loading a
+//! whole match, step, run and cell reading on memory that the caller owns, and reading a match file.
 //!
 //! The library promises what docs/MACHINE.md says of every call, for every content of memories, header, name, body and file.
 //! What it takes for granted is that a pointer is good for its length; here a slice says so. Memory that comes as pointers
@@ -13,5 +13,5 @@ mod match_file;
 mod raw;
 
 pub use answer::Answer;
-pub use machine::{Cell, Header, Loads, Machine, NotLent, Report, Ring, Roster, Rules, NO_ORIGIN};
-pub use match_file::{Match, Warrior};
+pub use machine::{Cell, Header, Loads, Machine, NotLent, Report, Ring, Roster, Rules};
+pub use match_file::{Match, Warrior, NO_ORIGIN};

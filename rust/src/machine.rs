@@ -2,9 +2,6 @@
 use crate::{raw, Answer};
 use std::fmt;
 
-/// The origin of a warrior that has none, meaning 0.
-pub const NO_ORIGIN: u16 = 65535;
-
 /// What a fresh machine is given and no call changes: the core's size; how far a process reads and writes from its own
 /// place; and the process limit P, how many entries of the queue each name may hold. The read and the write limit each divide
 /// the size; a machine without them has the size for both ([`Rules::of_size`]). P is 1 to 4,095, and the queue memory has
@@ -39,7 +36,7 @@ pub struct Ring {
     pub length: u32,
 }
 
-/// The names held: 16 slots of 32 bytes and a length each.
+/// The names held, in the order in which they were registered: 16 slots of 32 bytes and a length each.
 #[repr(C)]
 #[derive(Clone, Copy, Debug, PartialEq, Eq)]
 pub struct Roster {
@@ -68,7 +65,7 @@ pub struct Report {
     pub steps: u64,
 }
 
-/// The report of a match's loads, and the number, from 0, of the warrior that was refused, else 0.
+/// The report of a match loaded in one call, and the number, from 0, of the warrior that was refused, else 0.
 #[derive(Clone, Copy, Debug, PartialEq, Eq)]
 pub struct Loads {
     pub report: Report,
@@ -203,27 +200,48 @@ impl<'a> Machine<'a> {
         })
     }
 
-    /// Loads a warrior; an empty name is Warrior0. Warriors of one name share its process limit.
-    pub fn load(&mut self, name: &[u8], body: &[u8], origin: u16, place: u32) -> Report {
+    /// Places a body under a name, from a place on, going on at cell 0 past the end. A name that is not held yet is registered,
+    /// by an empty body too; an empty name is Warrior0. Nothing is started: a name that is never started runs nothing. A name
+    /// that holds P entries may be placed under. The writes are the instructions of the body.
+    pub fn place(&mut self, name: &[u8], body: &[u8], place: u32) -> Report {
         // SAFETY: the memories and the header are exclusive here, and no slice is null.
         report(unsafe {
-            raw::sumacadze_load(
+            raw::sumacadze_place(
                 self.core.as_mut_ptr(),
                 self.core.len(),
-                self.queue.as_mut_ptr(),
+                self.queue.as_ptr(),
                 self.queue.len(),
                 &mut self.header,
                 name.as_ptr(),
                 name.len(),
                 body.as_ptr(),
                 body.len(),
-                origin,
                 place,
             )
         })
     }
 
-    /// Loads every warrior of a match file in file order, up to the first refused; those before it stand, with their writes.
+    /// Starts a process under a name at any place of the core, whatever stands there. A name that is not held yet is
+    /// registered; no name holds more than P entries.
+    pub fn start(&mut self, name: &[u8], place: u32) -> Report {
+        // SAFETY: as for place.
+        report(unsafe {
+            raw::sumacadze_start(
+                self.core.as_ptr(),
+                self.core.len(),
+                self.queue.as_mut_ptr(),
+                self.queue.len(),
+                &mut self.header,
+                name.as_ptr(),
+                name.len(),
+                place,
+            )
+        })
+    }
+
+    /// Loads every warrior of a match file in file order, up to the first refused: each is placed, and then started at its
+    /// place plus its origin, modulo the core's size. What was placed and started before a refusal stands, with its writes;
+    /// so does the body of the refused warrior where it was placed and could not be started.
     pub fn load_match(&mut self, file: &[u8]) -> Loads {
         // SAFETY: the memories are exclusive here, and no slice is null.
         let l = unsafe {
@@ -246,7 +264,7 @@ impl<'a> Machine<'a> {
 
     /// Executes one instruction of the process at the front. SPL's child is dropped if its name held P entries before the step.
     pub fn step(&mut self) -> Report {
-        // SAFETY: as for load.
+        // SAFETY: as for place.
         report(unsafe {
             raw::sumacadze_step(
                 self.core.as_mut_ptr(),
@@ -260,7 +278,7 @@ impl<'a> Machine<'a> {
 
     /// Steps while steps taken are below the ceiling (none: 10,000), up to the first answer that is not Done.
     pub fn run(&mut self, ceiling: Option<u64>) -> Report {
-        // SAFETY: as for load.
+        // SAFETY: as for place.
         report(unsafe {
             raw::sumacadze_run(
                 self.core.as_mut_ptr(),
@@ -298,7 +316,7 @@ impl<'a> Machine<'a> {
         })
     }
 
-    /// Each name that is held and its number of processes, in order of first load. An unsound header's are cut to what there is room for.
+    /// Each name that is held and its number of processes, in the order in which they were registered. An unsound header's are cut to what there is room for.
     pub fn names(&self) -> impl Iterator<Item = (&[u8], u32)> {
         let held = (self.header.names.held as usize).min(16);
         let slots = self

@@ -1,6 +1,9 @@
 //! Reading a match file.
 use crate::{raw, Answer};
 
+/// The origin of a warrior that has none, meaning 0.
+pub const NO_ORIGIN: u16 = 65535;
+
 /// A match file that reads.
 #[derive(Clone, Copy, Debug)]
 pub struct Match<'a> {

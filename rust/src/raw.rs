@@ -76,17 +76,27 @@ extern "C" {
         queue_length: usize,
     ) -> Fresh;
     #[allow(clippy::too_many_arguments)]
-    pub fn sumacadze_load(
+    pub fn sumacadze_place(
         core: *mut u64,
         core_length: usize,
-        queue: *mut u64,
+        queue: *const u64,
         queue_length: usize,
         header: *mut Header,
         name: *const u8,
         name_length: usize,
         body: *const u8,
         body_length: usize,
-        origin: u16,
+        place: u32,
+    ) -> Report;
+    #[allow(clippy::too_many_arguments)]
+    pub fn sumacadze_start(
+        core: *const u64,
+        core_length: usize,
+        queue: *mut u64,
+        queue_length: usize,
+        header: *mut Header,
+        name: *const u8,
+        name_length: usize,
         place: u32,
     ) -> Report;
     pub fn sumacadze_load_match(

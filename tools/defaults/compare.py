@@ -1,10 +1,10 @@
 #!/usr/bin/env python3
-"""Compares the default modifier that the library's load decides with a model on every opcode and mode byte.
+"""Compares the default modifier that the library decides where a body is placed with a model on every opcode and mode byte.
 
 compare.py PROGRAM     PROGRAM is call.c, built as its first comment says
 
-The model makes a table of 19 * 8 * 8 bytes, by opcode, A mode and B mode. PROGRAM loads each of the 256 * 256 * 256 triples of
-bytes with modifier 255 and compares; it says how many were loaded, refused and differ. The status is 1 if any differs.
+The model makes a table of 19 * 8 * 8 bytes, by opcode, A mode and B mode. PROGRAM places each of the 256 * 256 * 256 triples
+of bytes with modifier 255 and compares; it says how many were placed, refused and differ. The status is 1 if any differs.
 """
 import itertools
 import subprocess

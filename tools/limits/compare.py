@@ -15,9 +15,9 @@ import subprocess
 import sys
 
 sys.dont_write_bytecode = True
-sys.path += [str(pathlib.Path(__file__).resolve().parent.parent / tool) for tool in ("match_load", "matches")]
+sys.path += [str(pathlib.Path(__file__).resolve().parent.parent / tool) for tool in ("match_load", "matches", "placing")]
 import stepping
-from loading import HEADER
+from record import HEADER
 from records import FRESH, RUN, STEP, cases
 
 # so many cases are handed to the program at once

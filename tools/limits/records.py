@@ -2,7 +2,7 @@
 import random
 
 from cases import damage_over, damage_processes, damaged, fresh_record, made_record, queue_rules
-from loading import LARGEST_SIZE, LAST_NUMBER, LONGEST_QUEUE, MOST_PROCESSES, NAMES, entry, word
+from record import LARGEST_SIZE, LAST_NUMBER, LONGEST_QUEUE, MOST_PROCESSES, NAMES, entry, word
 from stepping import JMP, SPL
 
 FRESH, STEP, RUN = range(3)

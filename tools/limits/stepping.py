@@ -5,8 +5,8 @@ soundness are those of tools/match_load.
 """
 import collections
 
-from loading import FRESH_CELL, LAST_NUMBER, Record, entry, word
 from model import Refused
+from record import FRESH_CELL, LAST_NUMBER, Record, entry, word
 
 DAT, MOV, ADD, SUB, MUL, DIV, MOD, JMP, JMZ, JMN, DJN, CMP, SEQ, SNE, SLT, SPL, NOP, LDP, STP = range(19)
 WHOLE = 6

@@ -2,10 +2,10 @@
 # steps.py SEED COUNT [FOLDER ROWS]: see README.md
 import collections, pathlib, random, sys
 sys.dont_write_bytecode = True
-sys.path += [str(pathlib.Path(__file__).resolve().parent.parent / tool) for tool in ("pmars", "match_load", "matches")]
+sys.path += [str(pathlib.Path(__file__).resolve().parent.parent / tool) for tool in ("pmars", "match_load", "matches", "placing")]
 import draft
 from cases import fresh_record
-from loading import entry
+from record import entry
 from rows import random_step, word, write_crate
 from stepping import Cell, step
 

@@ -1,7 +1,7 @@
 // Loads matches with the library, each in one call, and tells what came of it: call < CASES > RESULTS, for compare.py.
 // A case is the lengths of core, queue and file, of 64 bits each; the header; and the core, the queue and the file.
 // A result is the number, value, warrior, writes and steps, of 64 bits each; the header, the core and the queue left; and
-// one byte, 1 where the loads made one by one on a copy of the record gave and left the same, else 0.
+// one byte, 1 where the places and starts made one by one on a copy of the record gave and left the same, else 0.
 #include "record.h"
 #include <string.h>
 
@@ -30,14 +30,23 @@ static sumacadze_loads_t in_one_call(record *r, const uint8_t *file, size_t leng
     return loads;
 }
 
-static sumacadze_report_t load_line(record *r, const uint8_t *file, size_t length, size_t warrior) {
+// Places the warrior of a line and, where that is done, starts it; the writes are those of both.
+static sumacadze_report_t enter_line(record *r, const uint8_t *file, size_t length, size_t warrior) {
     sumacadze_line_t line = sumacadze_read_line(file, length, warrior);
-    return sumacadze_load(r->core, r->core_length, r->queue, r->queue_length, &r->header, file + line.name_start,
-                          line.name_length, file + line.body_start, line.body_length, line.origin, line.place);
+    const uint8_t *name = file + line.name_start, *body = file + line.body_start;
+    sumacadze_report_t placed = sumacadze_place(r->core, r->core_length, r->queue, r->queue_length, &r->header, name,
+                                                line.name_length, body, line.body_length, line.place);
+    if (placed.number)
+        return placed;
+    uint32_t origin = line.origin == SUMACADZE_NO_ORIGIN ? 0 : line.origin;
+    sumacadze_report_t started = sumacadze_start(r->core, r->core_length, r->queue, r->queue_length, &r->header, name,
+                                                 line.name_length, (line.place + origin) % r->header.rules.size);
+    started.writes += placed.writes;
+    return started;
 }
 
-// What stands before the loads: 9 of a run that plays nothing, 13 of reading the file, 1 of an M unlike the machine's.
-static sumacadze_report_t before_loads(record *r, sumacadze_contents_t contents) {
+// What stands before the warriors: 9 of a run that plays nothing, 13 of reading the file, 1 of an M unlike the machine's.
+static sumacadze_report_t before_warriors(record *r, sumacadze_contents_t contents) {
     sumacadze_report_t tested =
         sumacadze_run(r->core, r->core_length, r->queue, r->queue_length, &r->header, true, 0);
     if (tested.number)
@@ -51,10 +60,10 @@ static sumacadze_report_t before_loads(record *r, sumacadze_contents_t contents)
 
 static sumacadze_loads_t one_by_one(record *r, const uint8_t *file, size_t length) {
     sumacadze_contents_t contents = sumacadze_read(file, length);
-    sumacadze_loads_t loads = {.report = before_loads(r, contents)};
+    sumacadze_loads_t loads = {.report = before_warriors(r, contents)};
     for (size_t i = 0; i < contents.warriors && !loads.report.number; i++) {
         uint64_t writes = loads.report.writes;
-        loads.report = load_line(r, file, length, i);
+        loads.report = enter_line(r, file, length, i);
         loads.report.writes += writes;
         if (loads.report.number)
             loads.warrior = i;

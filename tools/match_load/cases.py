@@ -3,8 +3,9 @@ import contextlib
 import random
 import struct
 
-from loading import FRESH_CELL, LARGEST_SIZE, LAST_NUMBER, LONGEST_QUEUE, MOST_PROCESSES, NAMES, NAME_BYTES, NO_ORIGIN, Record, entry, word
+from loading import NO_ORIGIN
 from model import Machine, Refused
+from record import FRESH_CELL, LARGEST_SIZE, LAST_NUMBER, LONGEST_QUEUE, MOST_PROCESSES, NAMES, NAME_BYTES, Record, entry, word
 
 LINE = 43
 # values of P, and a P with the number of slots of a large queue memory
@@ -116,12 +117,15 @@ def changed(dice, file, at):
 
 
 def played_record(dice, size, processes, slots):
-    """A machine with warriors loaded and stepped by the model of tools/matches; slots not taken hold anything."""
+    """A machine with bodies placed, most of them started, and stepped by the model of tools/matches; slots not taken hold anything."""
     machine = Machine(size, processes)
     for _ in range(dice.randint(1, 4)):
+        name, at = dice.choice(POOL), dice.randrange(size)
         codes = b"".join(instruction(dice, 17) for _ in range(dice.randint(1, min(size, 5))))
         with contextlib.suppress(Refused):
-            machine.load(dice.choice(POOL), codes, dice.choice([NO_ORIGIN, 0, 1]), dice.randrange(size))
+            machine.place(name, codes, at)
+            if dice.random() < 0.8:
+                machine.start(name, (at + dice.choice([0, 0, 1])) % size)
     for _ in range(dice.randint(0, 30)):
         machine.step()
     record = fresh_record(size, processes, slots)

@@ -4,9 +4,10 @@
 compare.py PROGRAM [CASES [SEED]]     2000 cases of seed 1 where none are said; PROGRAM is call.c, built as tests/library.sh does
 
 Compared are number, value, warrior, writes, steps, and the whole header, core and queue afterwards; PROGRAM itself compares each
-call with the loads made one by one on a copy of the record. The first case that differs is shown, and the status is 1. Then how
-often each number was given, and for the numbers of a load at how many different warriors; how often 6 was given for the process
-limit, and for a seventeenth name; and how many headers had one fault alone.
+call with the places and starts made one by one on a copy of the record. The first case that differs is shown, and the status is
+1. Then how often each number was given, and for the numbers of a warrior at how many different ones; how often 6 was given for a
+seventeenth name, where a body is placed, and for the process limit, where it is started, and how often a body stays whose start
+was refused; and how many headers had one fault alone.
 """
 import collections
 import itertools
@@ -16,15 +17,20 @@ import subprocess
 import sys
 
 sys.dont_write_bytecode = True
-sys.path.append(str(pathlib.Path(__file__).resolve().parent.parent / "matches"))
+sys.path += [str(pathlib.Path(__file__).resolve().parent.parent / tool) for tool in ("matches", "placing")]
 from cases import cases
-from loading import HEADER, load_match
+from loading import load_match
 from model import read
+from placing import UNNAMED
+from record import HEADER
 
 # so many cases are handed to the program at once
 BATCH = 500
 TOLD = struct.Struct("<5Q")
-LOADS = 3, 4, 5, 6, 8
+# what the placing or the start of a warrior may give
+WARRIORS = 3, 4, 5, 6, 8
+# why 6 or 8 was given, in the order in which it is told
+SEVENTEENTH, LIMIT, STARTED, STAYS = "where placed, for a seventeenth name", "where started, for the process limit", "where started", "of these with a body that stays"
 
 
 def given(record, file):
@@ -53,22 +59,29 @@ class Tally:
     """What the cases reached."""
 
     def __init__(self):
-        # numbers by warrior, what 6 was given for, and what headers with one fault had
-        self.numbers, self.six, self.faults = collections.Counter(), collections.Counter(), collections.Counter()
+        # numbers by warrior, the calls and reasons of 6 and 8 by number, and what headers with one fault had
+        self.numbers, self.reasons, self.faults = collections.Counter(), collections.Counter(), collections.Counter()
 
     def add(self, record, file, number, warrior, faults):
         self.numbers[number, warrior] += 1
-        if number == 6:
-            name = read(file)[1][warrior][0] or b"Warrior0"
-            self.six["the process limit" if name in record.names() else "a seventeenth name"] += 1
+        if number in (6, 8):
+            self.add_reasons(record, number, *read(file)[1][warrior][:2])
         if len(faults) == 1:
             self.faults[faults[0]] += 1
+
+    def add_reasons(self, record, number, name, body):
+        """A name that was placed under is held, and then it was the start that was refused."""
+        if (name or UNNAMED) not in record.names():
+            self.reasons[number, SEVENTEENTH] += 1
+            return
+        self.reasons[number, LIMIT if number == 6 else STARTED] += 1
+        self.reasons[number, STAYS] += bool(body)
 
     def show(self):
         for number in sorted({number for number, _ in self.numbers}):
             at = [warrior for other, warrior in self.numbers if other == number]
-            where = f" at {len(at)} different warriors" if number in LOADS else ""
-            why = "".join(f", {times} for {reason}" for reason, times in sorted(self.six.items())) if number == 6 else ""
+            where = f" at {len(at)} different warriors" if number in WARRIORS else ""
+            why = "".join(f", {self.reasons[number, reason]} {reason}" for reason in (SEVENTEENTH, LIMIT, STARTED, STAYS) if self.reasons[number, reason])
             print(f"{number}: {sum(self.numbers[number, warrior] for warrior in at)}{where}{why}")
         print("headers with one fault alone:", ", ".join(f"{fault}: {times}" for fault, times in sorted(self.faults.items())))
 

@@ -68,8 +68,8 @@ class Machine:
         self.core = [[0, 4, [1, 1], [0, 0]] for _ in range(size)]
         self.queue, self.counts, self.threads, self.steps = [], {}, {}, 0
 
-    def load(self, name, body, origin, place):
-        name = name.decode() or "Warrior0"
+    def place(self, name, body, place):
+        """Places a body under a name, which is held from then on."""
         if len(body) // 12 > self.size:
             raise Refused(3)
         cells = []
@@ -82,14 +82,24 @@ class Machine:
             cells.append([opcode, modifier, [a_mode, b_mode], [a % self.size, b % self.size]])
         if place >= self.size:
             raise Refused(5)
-        if self.counts.get(name, 0) == self.processes:
-            raise Refused(6)
         for i, cell in enumerate(cells):
             self.core[(place + i) % self.size] = cell
-        self.counts[name] = self.counts.get(name, 0) + 1
+        name = name.decode() or "Warrior0"
+        self.counts.setdefault(name, 0), self.threads.setdefault(name, 0)
+
+    def start(self, name, place):
+        """Starts a process under a name at a place that is below the size."""
+        name = name.decode() or "Warrior0"
+        if self.counts.get(name, 0) == self.processes:
+            raise Refused(6)
         thread = self.threads.get(name, 0)
-        self.threads[name] = thread + 1
-        self.queue.append(((place + (0 if origin == 65535 else origin)) % self.size, thread, name))
+        self.counts[name], self.threads[name] = self.counts.get(name, 0) + 1, thread + 1
+        self.queue.append((place, thread, name))
+
+    def enter(self, name, body, origin, place):
+        """A warrior of a file: placed, then started at its origin."""
+        self.place(name, body, place)
+        self.start(name, (place + (0 if origin == 65535 else origin)) % self.size)
 
     def operand(self, pc, mode, number):
         """The pointer, a copy of the cell there, and the writes."""
@@ -165,7 +175,7 @@ def printed(file):
         size, warriors = read(file)
         machine = Machine(size, 125)
         for warrior in warriors:
-            machine.load(*warrior)
+            machine.enter(*warrior)
     except Refused as refused:
         return " ".join(map(str, refused.args)) + "\n"
     answer = total = 0

@@ -2,7 +2,7 @@
 """Turns battles, one to a line, into the compact form that the program `replay` reads: compact.py < BATTLES > BYTES
 
 Numbers are little-endian. A battle: core size (2), number of calls (2), the calls. A call: its kind (1), and
-0, load: name length (1), name, origin (2; 65,535 for none), instruction count (2), a match file's 12 bytes for each
+0, a load of the Rust: name length (1), name, origin (2; 65,535 for none), instruction count (2), a match file's 12 bytes for each
 1, step
 2, run: ceiling (4)
 3, run with no ceiling given

@@ -30,15 +30,17 @@ DEPENDS = ["laws", "answer", "offset", "types", "cell", "encoding", "metadata", 
 
 # imports of the module Play
 USES = """\
+use Rattle.offset.specs.Offset.{ahead}
 use Rattle.cell.specs.Cells.{sound_word}
 use Rattle.program.specs.Program.{lawful, lowest_fault, cells}
 use Rattle.std.specs.Prelude.{None, Some}
-use Rattle.machine.specs.State.{of_size, Machine, Outcome}
+use Rattle.machine.specs.State.{of_size, Machine, Outcome, and_then}
 use Rattle.machine.specs.Names.{names, register, numbered}
 use Rattle.machine.specs.Queue.{entries, pop, push, started}
 use Rattle.machine.specs.Soundness.{sound_header, sound_entry}
 use Rattle.machine.specs.Fresh.{fresh}
-use Rattle.machine.specs.Load.{loaded, load}
+use Rattle.machine.specs.Place.{placing, place}
+use Rattle.machine.specs.Start.{starting, start}
 use Rattle.machine.specs.Pointers.{operand}
 use Rattle.machine.specs.Execution.{effect_of}
 use Rattle.machine.specs.Step.{effect, core_after, step_written, counted, executed, step}
@@ -46,11 +48,12 @@ use Rattle.machine.specs.Run.{Ceiling, run}
 """
 
 # the shut names that a battle computes through
-OPENED = "sound_word lawful lowest_fault cells register numbered entries pop push started sound_header sound_entry fresh loaded load operand effect_of effect core_after step_written counted executed step run"
+OPENED = "sound_word lawful lowest_fault cells register numbered entries pop push started sound_header sound_entry fresh placing place starting start operand effect_of effect core_after step_written counted executed step run"
 
-# the calls, on a machine m: `size`, `processes` and `slots` are numbers, `name` and `body` bytes, `origin` a number, `ceiling` an Option ℕ
+# the calls, on a machine m: `size`, `processes` and `slots` are numbers, `name` and `body` bytes, `origin` a number, `ceiling` an Option ℕ.
+# A load of the Rust is a place at 0 and, where that is accepted, a start at the origin.
 FRESH = "(fresh (of_size size processes) (replicate size 7) (replicate slots 9)).machine"
-LOAD = "load m name body origin 0"
+LOAD = "and_then (place m name body 0) (λ n. start n name (origin_in n origin))"
 STEP = "step m"
 RUN = "run (ceilings ceiling) m"
 
@@ -97,6 +100,10 @@ pub data Call : Type 0 where
 abbrev ceilings : Option ℕ → Ceiling
 ceilings none = None
 ceilings (some n) = Some n
+
+-- where a body at 0 is started: at its origin; 65,535 is none, and means 0
+abbrev origin_in : Machine → ℕ → ℕ
+origin_in m origin = ahead m.header.rules.size 0 (cond (eqb origin 65535) 0 origin)
 
 abbrev answered : Call → Machine → Outcome
 answered (loads name body origin) m = {LOAD}

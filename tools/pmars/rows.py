@@ -4,7 +4,7 @@ import os, pathlib, shutil
 import draft
 
 HERE = pathlib.Path(__file__).resolve().parent
-UNFOLDING = ("unfolding sound_word lawful lowest_fault cells register numbered entries pop push started sound_header sound_entry fresh loaded load "
+UNFOLDING = ("unfolding sound_word register numbered entries pop push started sound_header sound_entry fresh starting start "
              "operand effect_of effect core_after step_written counted executed step Draft.step")
 DEPENDENCIES = "laws answer offset types cell encoding metadata program machine draft".split()
 # of these the definitions are enough
