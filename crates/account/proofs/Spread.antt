@@ -16,11 +16,11 @@ use Rattle.account.specs.Lists.{Listed, One, LoadMatch, outcome_of, calls_in, ma
 
 -- one list of calls after another
 module _ {C : Type 0} (does : C → Machine → Outcome) where
-  left-append : (xs ys : List C) (m : Machine) → left does (xs ++ ys) m ≡ left does ys (left does xs m)
+  pub left-append : (xs ys : List C) (m : Machine) → left does (xs ++ ys) m ≡ left does ys (left does xs m)
   left-append [] ys m = refl
   left-append (x ∷ xs) ys m = left-append xs ys (does x m).machine
 
-  reported-append : (xs ys : List C) (m : Machine) → reported does (xs ++ ys) m ≡ reported does xs m + reported does ys (left does xs m)
+  pub reported-append : (xs ys : List C) (m : Machine) → reported does (xs ++ ys) m ≡ reported does xs m + reported does ys (left does xs m)
   reported-append [] ys m = sym (zero-add (reported does ys m))
   reported-append (x ∷ xs) ys m = rw (reported-append xs ys (does x m).machine, add_assoc)
 
