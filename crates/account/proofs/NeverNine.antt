@@ -72,7 +72,7 @@ match-without-nine f m s =
 listed-not-nine : (x : Listed) (m : Machine) → SoundMachine m → (outcome_of x m).number ≡ 9 → ⊥
 listed-not-nine (One c) m s = call-not-nine c m s
 listed-not-nine (LoadMatch f) m s =
-    match-by-cases f m (λ cs l. l.outcome.number ≡ 9 → ⊥) (λ n v e. without 9 (match_checks m f) (match-without-nine f m s) n v e)
+    match-by-cases f m (λ b l. l.outcome.number ≡ 9 → ⊥) (λ n v e. without 9 (match_checks m f) (match-without-nine f m s) n v e)
     (λ e. loads-not-nine f 0 (warriors_in f) m s)
 
 pub always-sound : (rules : Rules) (core queue : List ℕ) → (fresh rules core queue).number ≡ 0 → (calls : List Listed)

@@ -6,7 +6,7 @@ use mathlib.Core.Bool.{Bool, true, false, cond}
 use mathlib.Core.List.{List, [], ◌∷◌, ◌++◌}
 use native.Mathlib.Nat.{zero-add, add-zero, add_assoc}
 use lib.Dec.{eqb}
-use Rattle.machine.specs.State.{Machine, Outcome, joined, Verdict, accepted, refusal, first}
+use Rattle.machine.specs.State.{Machine, Outcome, joined, Verdict, accepted, refusal, first, passes}
 use Rattle.machine.proofs.Checks.{is_accepted, passes-accepted}
 use Rattle.match_format.specs.Format.{Warrior}
 use Rattle.match_file.specs.Reading.{warriors_in, warrior_of}
@@ -103,21 +103,22 @@ loads-made f k (suc n) m =
 
 
 -- a match is refused before its first place, or it makes its calls
-pub match-by-cases : (f : List ℕ) (m : Machine) (P : List Call → Loads → Type 0)
-    → ((n v : ℕ) → first (match_checks m f) ≡ refusal n v → P [] (after_checks (refusal n v) m (loads f 0 (warriors_in f) m)))
-    → (first (match_checks m f) ≡ accepted → P (made (calls_in f 0 (warriors_in f)) m) (loads f 0 (warriors_in f) m))
-    → P (singles (LoadMatch f) m) (load_match m f)
+pub match-by-cases : (f : List ℕ) (m : Machine) (P : Bool → Loads → Type 0)
+    → ((n v : ℕ) → first (match_checks m f) ≡ refusal n v → P false (after_checks (refusal n v) m (loads f 0 (warriors_in f) m)))
+    → (first (match_checks m f) ≡ accepted → P true (loads f 0 (warriors_in f) m))
+    → P (passes (match_checks m f)) (load_match m f)
 unfolding load_match
 match-by-cases f m P r a = rw (passes-accepted (match_checks m f)) (go (first (match_checks m f)) refl)
   where
-    go : (v : Verdict) → first (match_checks m f) ≡ v
-        → P (cond (is_accepted v) (made (calls_in f 0 (warriors_in f)) m) []) (after_checks v m (loads f 0 (warriors_in f) m))
+    go : (v : Verdict) → first (match_checks m f) ≡ v → P (is_accepted v) (after_checks v m (loads f 0 (warriors_in f) m))
     go accepted e = a e
     go (refusal n v) e = r n v e
 
 pub call-counts : (x : Listed) (m : Machine) → CountsAs (singles x m) m (outcome_of x m)
 call-counts (One c) m = (refl, add-zero (outcome c m).writes)
-call-counts (LoadMatch f) m = match-by-cases f m (λ cs l. CountsAs cs m l.outcome) (λ n v e. (refl, refl)) (λ e. loads-made f 0 (warriors_in f) m)
+call-counts (LoadMatch f) m =
+    match-by-cases f m (λ b l. CountsAs (cond b (made (calls_in f 0 (warriors_in f)) m) []) m l.outcome) (λ n v e. (refl, refl))
+    (λ e. loads-made f 0 (warriors_in f) m)
 
 pub spreads : Spread
 spreads [] m = record { machine = refl; writes = refl; log = λ log. refl }

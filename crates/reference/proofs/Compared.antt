@@ -17,7 +17,7 @@ use Rattle.account.proofs.Spread.{CountsAs, left-append, reported-append}
 use Rattle.reference.specs.Compared.{Compared, Load, Single, calls_of, comes_to, calls_for, loads_in, compared_of, SameCompared}
 
 -- one of the list
-counts : (x : Compared) (m : Machine) → CountsAs (calls_of x m) m (comes_to x m)
+pub counts : (x : Compared) (m : Machine) → CountsAs (calls_of x m) m (comes_to x m)
 counts (Single c) m = (refl, add-zero (outcome c m).writes)
 counts (Load name body origin at start_at) m =
     go (eqb p.number 0) (eqb s.number 0)
