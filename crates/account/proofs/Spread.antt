@@ -101,7 +101,6 @@ loads-made f k (suc n) m =
     more : Loads
     more = loads f (k + 1) n s.machine
 
-
 -- a match is refused before its first place, or it makes its calls
 pub match-by-cases : (f : List ℕ) (m : Machine) (P : Bool → Loads → Type 0)
     → ((n v : ℕ) → first (match_checks m f) ≡ refusal n v → P false (after_checks (refusal n v) m (loads f 0 (warriors_in f) m)))

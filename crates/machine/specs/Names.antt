@@ -9,7 +9,7 @@ use Rattle.machine.specs.declared.Roster.{Roster}
 abbrev pub name_at : Roster → ℕ → List ℕ
 name_at r i = take (get_or r.lengths i 0) (drop (32 * i) r.bytes)
 
--- the names held, in order of first load
+-- the names held, in order of registration
 abbrev pub names : Roster → List (List ℕ)
 names r = table (name_at r) 0 r.held
 

@@ -46,7 +46,7 @@ pub struct Header {
     pub threads: [u32; 16],
 }
 
-// What load and a step change of a header beside its names: the ring, the steps taken, and each name's count and next thread number, side by side as the header has them.
+// What starting and a step change of a header beside its names: the ring, the steps taken, and each name's count and next thread number, side by side as the header has them.
 #[derive(Clone, Copy)]
 pub struct Processes {
     pub ring: Ring,
@@ -63,7 +63,7 @@ pub struct Entry {
     pub name: u8,
 }
 
-// What fresh, load, step and run give back: an answer, its writes and steps, and the header. No Result: beside a refusal stand writes, steps and a header too.
+// What fresh, place, start, step and run give back: an answer, its writes and steps, and the header. No Result: beside a refusal stand writes, steps and a header too.
 #[derive(Clone, Copy)]
 pub struct Outcome {
     pub answer: Answer,

@@ -69,10 +69,13 @@ fn place_and_start(
         Err(error) => return (Err(error), 0),
     };
     let at = add(Absolute(w.place), Relative(origin_of(w.origin)), rules.size);
-    (start_parts(queue, rules, names, processes, w.name, at.0), writes)
+    (
+        start_parts(queue, rules, names, processes, w.name, at.0),
+        writes,
+    )
 }
 
-// Loads that many warriors of a file into a record whose header is sound, up to the first refused. Core and queue are lent one by one: of two `&mut` in a struct the check knows the lengths alone once the struct is gone.
+// Places and starts that many warriors of a file in a record whose header is sound, up to the first refused. Core and queue are lent one by one: of two `&mut` in a struct the check knows the lengths alone once the struct is gone.
 fn load_all(core: &mut [u64], queue: &mut [u64], h: Header, file: &[u8], count: usize) -> Loads
     requires { (count ≤ 16) × (size_in file.now ≡ h.rules.size) × (sound_header (machine_of core.old queue.old h) ≡ true) }
     ensures { (given (told result.outcome.answer) result.outcome.writes result.outcome.steps (machine_of core.new queue.new result.outcome.header)
@@ -104,7 +107,7 @@ fn load_all(core: &mut [u64], queue: &mut [u64], h: Header, file: &[u8], count: 
     stopped(Ok(()), writes, header, 0)
 }
 
-// Loads every warrior of a match file, one by one in file order, up to the first refused; those before it stand.
+// Loads every warrior of a match file, one by one in file order: its body is placed and a process started, up to the first call that is refused. What was done before it stands, its own body too where its start is refused.
 pub fn load_match(core: &mut [u64], queue: &mut [u64], h: Header, file: &[u8]) -> Loads
     ensures { (given (told result.outcome.answer) result.outcome.writes result.outcome.steps (machine_of core.new queue.new result.outcome.header)
         ≡ given_by (spec.load_match (machine_of core.old queue.old h) file.now).outcome)

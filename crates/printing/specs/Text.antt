@@ -19,7 +19,7 @@ decimal n = digits 20 n
 unfoldable pub line_of : List ℕ → ℕ → List ℕ
 line_of name count = name ++ (32 ∷ (decimal count ++ (10 ∷ [])))
 
--- name and count for each name in order of first load: of the n names from slot i on
+-- name and count for each name in order of registration: of the n names from slot i on
 abbrev pub name_lines : Header → ℕ → ℕ → List ℕ
 name_lines h i zero = []
 name_lines h i (suc n) = line_of (name_at h.names i) (get_or h.counts i 0) ++ name_lines h (i + 1) n

@@ -64,8 +64,31 @@ in-domain : Domain calls eight
 unfolding sound_word lawful lowest_fault cells register numbered entries pop push started sound_header sound_entry fresh placing place starting start operand effect_of effect core_after step_written counted executed step run
 in-domain = (
   ((refl, omega arith, refl), refl),
-  (((refl, omega arith, refl), refl), ((refl, refl), ((refl, refl), ((tt, refl), ((tt, refl), ((tt, refl), ((tt, refl), ((tt, refl),
-      (((refl, omega arith, refl), refl), ((refl, refl), ((refl, refl), tt))))))))))),
+  (
+    ((refl, omega arith, refl), refl),
+    (
+      (refl, refl),
+      (
+        (refl, refl),
+        (
+          (tt, refl),
+          (
+            (tt, refl),
+            (
+              (tt, refl),
+              (
+                (tt, refl),
+                (
+                  (tt, refl),
+                  (((refl, omega arith, refl), refl), ((refl, refl), ((refl, refl), tt))),
+                ),
+              ),
+            ),
+          ),
+        ),
+      ),
+    ),
+  ),
 )
 
 made : (fresh (of_size 8 4) (replicate 8 7) (replicate 64 9)).number ≡ 0

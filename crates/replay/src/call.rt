@@ -22,7 +22,11 @@ fn load(core: &mut [u64], queue: &mut [u64], h: Header, w: Warrior) -> Outcome {
     if placed.answer.is_err() {
         return placed;
     }
-    let origin = if w.origin == NO_ORIGIN { 0 } else { w.origin as u32 };
+    let origin = if w.origin == NO_ORIGIN {
+        0
+    } else {
+        w.origin as u32
+    };
     let at = add(Absolute(w.place), Relative(origin), h.rules.size);
     start(core, queue, placed.header, w.name, at.0)
 }

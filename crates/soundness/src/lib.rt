@@ -142,7 +142,7 @@ pub fn in_bounds(core: &[u64], queue: &[u64], rules: Rules, ring: Ring) -> bool
         & ((ring.head as usize) < slots)
 }
 
-// Whether a header is sound beside the core's and the queue's memory; its parts are lent as load and a run have them. That the length is at most the queue memory's entries follows: at most 16 counts, none over P, sum to it.
+// Whether a header is sound beside the core's and the queue's memory; its parts are lent as placing, starting and a run have them. That the length is at most the queue memory's entries follows: at most 16 counts, none over P, sum to it.
 pub fn sound_header(
     core: &[u64],
     queue: &[u64],

@@ -93,7 +93,7 @@ pub extern "C" fn sumacadze_run(
     sumacadze::sumacadze_run(core, queue, header, said, ceiling)
 }
 
-// Loads every warrior of a match file, one by one in file order, up to the first refused; those before it stand.
+// Loads every warrior of a match file, one by one in file order: its body is placed and a process started, up to the first call that is refused. What was done before it stands, its own body too where its start is refused.
 #[unsafe(no_mangle)]
 pub extern "C" fn sumacadze_load_match(
     core: &mut [u64],

@@ -14,6 +14,7 @@ use Rattle.metadata.specs.Metadata.{valid_name}
 use Rattle.machine.specs.State.{Check, check, first, verdict_told}
 use Rattle.machine.specs.Place.{warrior_checks}
 use Rattle.warrior_checks.specs.Refusal.{warrior_told}
+
 abbrev rows : Bool → Bool → ℕ → Bool → List Check → List Check
 rows a b v c rest = check a 3 ∷ record { applies = b; number = 4; value = v } ∷ check c 5 ∷ rest
 

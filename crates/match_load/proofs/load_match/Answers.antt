@@ -46,8 +46,7 @@ load_all-requires c =
     let a = c.args in
     let w = whole a.core.now a.queue.now a.h c.processes_of-processes.ensures in
     let reads : fault a.file.now ≡ None = no-fault (fault a.file.now) (contents_in a.file.now) c.in-Ok.ensures in
-    let is = is_read (fault a.file.now) (contents_in a.file.now) c.in-Ok.ensures in
-    (
+    let is = is_read (fault a.file.now) (contents_in a.file.now) c.in-Ok.ensures in (
       omega (arith, (head_ok a.file.now reads).high, ap (λ (x : Contents). x.warriors) is),
       sym (ap (λ (x : Contents). x.size) is) ∙ c.if-contents-h.false,
       sym (c.sound_header.ensures ∙ ap sound_header w) ∙ c.if-not-sound_header.false,

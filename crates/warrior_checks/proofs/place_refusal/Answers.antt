@@ -31,8 +31,9 @@ returns c =
     let a = c.args in
     let checked = c.in_ok-warrior_refusal.ensures in
     elim c.else-names-eq-MOST_NAMES.branch [
-    else-names-eq-MOST_NAMES-via-then-names-eq-MOST_NAMES+else-is_none w ↦
-        place-held a.size a.names.now a.name.now a.body.now a.place c.if-names-gt-MOST_NAMES.false checked w.find.result
-        (λ e. let f : ⊥ = search rules in f) (w.find.ensures ∙ ap (λ n. found a.names.now n) w.called.ensures)
-    | else-names-eq-MOST_NAMES-via-else-names-eq-MOST_NAMES w ↦
-        place-room a.size a.names.now a.name.now a.body.now a.place c.if-names-gt-MOST_NAMES.false checked w.if-names-eq-MOST_NAMES.false ]
+      | else-names-eq-MOST_NAMES-via-then-names-eq-MOST_NAMES+else-is_none w ↦
+          place-held a.size a.names.now a.name.now a.body.now a.place c.if-names-gt-MOST_NAMES.false checked w.find.result
+          (λ e. let f : ⊥ = search rules in f) (w.find.ensures ∙ ap (λ n. found a.names.now n) w.called.ensures)
+      | else-names-eq-MOST_NAMES-via-else-names-eq-MOST_NAMES w ↦
+          place-room a.size a.names.now a.name.now a.body.now a.place c.if-names-gt-MOST_NAMES.false checked w.if-names-eq-MOST_NAMES.false
+    ]
