@@ -21,18 +21,20 @@ use Rattle.machine.specs.Names.{is_new}
 use Rattle.machine.specs.Queue.{entries, name_of, entries_of, front}
 use Rattle.machine.specs.Soundness.{sound_header}
 use Rattle.machine.specs.Fresh.{fresh_machine, fresh}
-use Rattle.machine.specs.Load.{loaded, load}
+use Rattle.machine.specs.Place.{placing, place}
+use Rattle.machine.specs.Start.{starting, start}
 use Rattle.machine.specs.Step.{core_after, executed, step, executes}
 use Rattle.machine.specs.Run.{Ceiling, plays, ceiling_of, run}
 use Rattle.machine.proofs.Step.{step-writes-three, Executed, is-executed, step-by-cases, step-some}
 use Rattle.machine.proofs.Fresh.{fresh-accepted, fresh-lengths}
-use Rattle.machine.proofs.Load.{Loaded, loadable, is-loaded, load-by-cases}
-use Rattle.machine.proofs.ByName.{Stepped, stepped, Begun, begun}
-use Rattle.machine.proofs.SoundMachine.{SoundMachine, sound-ready, step_keeps, load-keeps, fresh-sound}
+use Rattle.machine.proofs.Place.{Placed, placeable, is-placed, place-by-cases}
+use Rattle.machine.proofs.Start.{Started, startable, is-started, start-by-cases}
+use Rattle.machine.proofs.ByName.{Stepped, stepped, Named, place-named, start-named}
+use Rattle.machine.proofs.SoundMachine.{SoundMachine, sound-ready, step_keeps, place-keeps, start-keeps, fresh-sound}
 use Rattle.account.specs.Calls as Calls
-use Rattle.account.specs.Calls.{Call, Load, Step, Run, outcome, left, reported, Event, log_step, log_steps, log_run, log_call, logged}
+use Rattle.account.specs.Calls.{Call, Place, Start, Step, Run, outcome, left, reported, Event, log_step, log_steps, log_run, log_call, logged}
 use Rattle.account.specs.Lists.{spread, SameCalls}
-use Rattle.account.specs.Account.{Account, EveryAccount, load_of, child_of, ending_of, since_ending, differing}
+use Rattle.account.specs.Account.{Account, EveryAccount, start_of, call_of, child_of, ending_of, since_ending, differing}
 use Rattle.account.proofs.Cells.{step-cells, placed-cells, fresh_cells}
 use Rattle.account.proofs.Spread.{spreads}
 
@@ -47,7 +49,7 @@ module _ (m m' : Machine) (t : List ℕ) (w x : ℕ) (log : List Event) (i : Inv
   happened p = Calls.executed t p x ∷ log
 
   balance : (n : List ℕ) (p : ℕ) → p ≤ 2 → entries_of m' n + one_if (same t n) ≡ entries_of m n + p * one_if (same t n)
-      → entries_of m' n + tally (ending_of n) (happened p) ≡ tally (load_of n) (happened p) + tally (child_of n) (happened p)
+      → entries_of m' n + tally (ending_of n) (happened p) ≡ tally (start_of n) (happened p) + tally (child_of n) (happened p)
   balance n zero h e = let a = i.account.entries n in omega arith
   balance n (suc zero) h e = let a = i.account.entries n in omega arith
   balance n (suc (suc zero)) h e = let a = i.account.entries n in omega arith
@@ -70,14 +72,15 @@ module _ (m m' : Machine) (t : List ℕ) (w x : ℕ) (log : List Event) (i : Inv
       go (suc (suc zero)) false h a e = let s = old (omega arith) in omega arith
       go (suc (suc (suc p))) b h a e = absurd (let f : ⊥ = omega arith in f)
 
-  others : (n : List ℕ) (p : ℕ) → p ≤ 2 → one_if (same t n) ≤ entries_of m n → entries_of m' n + one_if (same t n) ≡ entries_of m n + p * one_if (same t n)
-      → tally (load_of n) log ≡ 0 → entries_of m' n ≡ 0
-  others n zero h a e z = let o = i.account.others n z in omega arith
-  others n (suc zero) h a e z = let o = i.account.others n z in omega arith
-  others n (suc (suc zero)) h a e z = let o = i.account.others n z in omega arith
-  others n (suc (suc (suc p))) h a e z = absurd (let f : ⊥ = omega arith in f)
+  -- a name without entries has none, and it is not the one that executed
+  still-none : (n : List ℕ) (p : ℕ) → p ≤ 2 → one_if (same t n) ≤ entries_of m n → entries_of m' n + one_if (same t n) ≡ entries_of m n + p * one_if (same t n)
+      → entries_of m n ≡ 0 → entries_of m' n ≡ 0
+  still-none n zero h a e z = omega arith
+  still-none n (suc zero) h a e z = omega arith
+  still-none n (suc (suc zero)) h a e z = omega arith
+  still-none n (suc (suc (suc p))) h a e z = absurd (let f : ⊥ = omega arith in f)
 
--- a says that a name is new, b that it is the one loaded next, k how many loads it had
+-- a says that a name is new, b that it is the one called next, k how many calls had it
 still-new : (a b : Bool) (k : ℕ) → a ≡ eqb k 0 → (a && not b) ≡ eqb (one_if b + k) 0
 still-new a false k e = and-true a ∙ e ∙ ap (λ (j : ℕ). eqb j 0) (sym (zero-add k))
 still-new true true k e = sym (ne_eqb (1 + k) 0 (λ (z : 1 + k ≡ 0). let f : ⊥ = omega arith in f))
@@ -96,9 +99,10 @@ after-step m o w log i sound e s three core =
         writes = let a = i.account.writes in omega arith;
         bound = let a = i.account.bound in let b = e.steps in omega arith;
         cells = let a = i.account.cells in let b : differing o.machine.core ≡ differing (core_after m) = ap differing e.core in omega arith;
-        names = λ n. ap (λ (ns : Roster). is_new ns n) e.names ∙ i.account.names n ∙ ap (λ (k : ℕ). eqb k 0) (sym (zero-add (tally (load_of n) log)));
+        names = λ n. ap (λ (ns : Roster). is_new ns n) e.names ∙ i.account.names n ∙ ap (λ (k : ℕ). eqb k 0) (sym (zero-add (tally (call_of n) log)));
         idle = λ n. idle m o.machine t w o.writes log i n o.pushes e.pushes (s.had n) (s.entries n);
-        others = λ n z. others m o.machine t w o.writes log i n o.pushes e.pushes (s.had n) (s.entries n) (omega arith);
+        others = λ n z. none-left n (i.account.others n (omega arith));
+        never_started = λ n z. let a = i.account.never_started n (omega arith) in let h = s.had n in (omega (arith, a.0, a.1, h), none-left n a.1);
       };
     }
   where
@@ -108,40 +112,59 @@ after-step m o w log i sound e s three core =
     after : List Event
     after = Calls.executed t o.pushes o.writes ∷ log
 
-    balanced : (n : List ℕ) → entries_of o.machine n + tally (ending_of n) after ≡ tally (load_of n) after + tally (child_of n) after
+    balanced : (n : List ℕ) → entries_of o.machine n + tally (ending_of n) after ≡ tally (start_of n) after + tally (child_of n) after
     balanced n = balance m o.machine t w o.writes log i n o.pushes e.pushes (s.entries n)
 
--- a load accepted, of the name t
-after-load : (m : Machine) (t body : List ℕ) (place : ℕ) (o : Outcome) (w : ℕ) (log : List Event) → Invariant m w log → SoundMachine o.machine
-    → Loaded m body place o → Begun m t o.machine
-    → Invariant o.machine (w + o.writes) (Calls.loaded t (instructions body) o.writes ∷ log)
-after-load m t body place o w log i sound l b =
+    none-left : (n : List ℕ) → entries_of m n ≡ 0 → entries_of o.machine n ≡ 0
+    none-left n = still-none m o.machine t w o.writes log i n o.pushes e.pushes (s.had n) (s.entries n)
+
+-- a body placed, under the name t
+after-place : (m : Machine) (t body : List ℕ) (at : ℕ) (o : Outcome) (w : ℕ) (log : List Event) → Invariant m w log → SoundMachine o.machine
+    → Placed m body at o → Named m t 0 o.machine
+    → Invariant o.machine (w + o.writes) (Calls.placed t (instructions body) o.writes ∷ log)
+after-place m t body at o w log i sound l b =
     record {
       sound = sound;
       account = record {
-        entries = balanced;
-        counts = λ n. ap (λ (k : ℕ). k + tally (ending_of n) after) (b.agree.counts n) ∙ balanced n;
+        entries = λ n. let a = b.entries n in let c = i.account.entries n in omega arith;
+        counts = λ n. let a = b.agree.counts n in let c = b.entries n in let d = i.account.entries n in omega arith;
         steps = let a = i.account.steps in let c = l.steps in omega arith;
         writes = let a = i.account.writes in omega arith;
         bound = let a = i.account.bound in let c = l.steps in let d = l.writes in omega arith;
         cells = let a = i.account.cells in let c = placed-more in omega arith;
-        names = λ n. b.names n ∙ still-new (is_new m.header.names n) (same t n) (tally (load_of n) log) (i.account.names n);
+        names = λ n. b.names n ∙ still-new (is_new m.header.names n) (same t n) (tally (call_of n) log) (i.account.names n);
         idle = λ n z. let a = b.entries n in let c = i.account.idle n (omega arith) in omega arith;
         others = λ n z. let a = b.entries n in let c = i.account.others n (omega arith) in omega arith;
+        never_started = λ n z. let a = b.entries n in let c = i.account.never_started n (omega arith) in (omega (arith, c.0), omega (arith, a, c.1));
       };
     }
   where
-    after : List Event
-    after = Calls.loaded t (instructions body) o.writes ∷ log
-
-    balanced : (n : List ℕ) → entries_of o.machine n + tally (ending_of n) after ≡ tally (load_of n) after + tally (child_of n) after
-    balanced n = let a = b.entries n in let c = i.account.entries n in omega arith
-
     placed-more : differing o.machine.core ≤ differing m.core + o.writes
     placed-more =
-        let p = placed-cells (cells m.header.rules.size body) m.core place in
+        let p = placed-cells (cells m.header.rules.size body) m.core at in
         let q : length (cells m.header.rules.size body) ≤ instructions body = cells-le m.header.rules.size body in
         rw (l.core, l.writes) (omega arith)
+
+-- a process started, under the name t
+after-start : (m : Machine) (t : List ℕ) (o : Outcome) (w : ℕ) (log : List Event) → Invariant m w log → SoundMachine o.machine
+    → Started m o → Named m t 1 o.machine
+    → Invariant o.machine (w + o.writes) (Calls.started t o.writes ∷ log)
+after-start m t o w log i sound l b =
+    record {
+      sound = sound;
+      account = record {
+        entries = λ n. let a = b.entries n in let c = i.account.entries n in omega arith;
+        counts = λ n. let a = b.agree.counts n in let c = b.entries n in let d = i.account.entries n in omega arith;
+        steps = let a = i.account.steps in let c = l.steps in omega arith;
+        writes = let a = i.account.writes in omega arith;
+        bound = let a = i.account.bound in let c = l.steps in let d = l.writes in omega arith;
+        cells = let a = i.account.cells in let c : differing o.machine.core ≡ differing m.core = ap differing l.core in omega arith;
+        names = λ n. b.names n ∙ still-new (is_new m.header.names n) (same t n) (tally (call_of n) log) (i.account.names n);
+        idle = λ n z. let a = b.entries n in let c = i.account.idle n (omega arith) in omega arith;
+        others = λ n z. let a = b.entries n in let c = i.account.others n (omega arith) in omega arith;
+        never_started = λ n z. let a = b.entries n in let c = i.account.never_started n (omega arith) in (omega (arith, c.0), omega (arith, a, c.1, z));
+      };
+    }
 
 -- a refusal, and each call
 after-refusal : {m : Machine} {w : ℕ} {log : List Event} → Invariant m w log → Invariant m (w + 0) log
@@ -188,24 +211,38 @@ run-kept c m w log i = go (sound_header m)
     go true = steps-kept k m w log i
     go false = after-refusal i
 
-load_kept : (name body : List ℕ) (origin place : ℕ) (m : Machine) (w : ℕ) (log : List Event) → Invariant m w log
-    → Invariant (load m name body origin place).machine (w + (load m name body origin place).writes) (log_call (Load name body origin place) m log)
-load_kept name body origin place m w log i =
-    load-by-cases m name body origin place
+place_kept : (name body : List ℕ) (at : ℕ) (m : Machine) (w : ℕ) (log : List Event) → Invariant m w log
+    → Invariant (place m name body at).machine (w + (place m name body at).writes) (log_call (Place name body at) m log)
+place_kept name body at m w log i =
+    place-by-cases m name body at
     (λ o. SoundMachine o.machine
-    → Invariant o.machine (w + o.writes) (cond (eqb o.number 0) (Calls.loaded (called name) (instructions body) o.writes ∷ log) log))
+    → Invariant o.machine (w + o.writes) (cond (eqb o.number 0) (Calls.placed (called name) (instructions body) o.writes ∷ log) log))
     (λ n v e x s. rw x (after-refusal i))
     (λ e s.
-    let l = is-loaded m name body origin place in
+    let l = is-placed m name body at in
     rw l.number
-    (after-load m (called name) body place (loaded m (called name) body origin place) w log i s l
-    (begun m name body origin place i.sound.header i.sound.agree (loadable m name body place e))))
-    (load-keeps m name body origin place i.sound)
+    (after-place m (called name) body at (placing m (called name) body at) w log i s l
+    (place-named m name body at i.sound.header i.sound.agree (placeable m name body at e))))
+    (place-keeps m name at i.sound body)
+
+start_kept : (name : List ℕ) (at : ℕ) (m : Machine) (w : ℕ) (log : List Event) → Invariant m w log
+    → Invariant (start m name at).machine (w + (start m name at).writes) (log_call (Start name at) m log)
+start_kept name at m w log i =
+    start-by-cases m name at
+    (λ o. SoundMachine o.machine → Invariant o.machine (w + o.writes) (cond (eqb o.number 0) (Calls.started (called name) o.writes ∷ log) log))
+    (λ n v e x s. rw x (after-refusal i))
+    (λ e s.
+    let l = is-started m name at in
+    rw l.number
+    (after-start m (called name) (starting m (called name) at) w log i s l
+    (start-named m name at i.sound.header i.sound.agree (startable m name at e))))
+    (start-keeps m name at i.sound)
 
 -- any list of calls
 call_kept : (c : Call) (m : Machine) (w : ℕ) (log : List Event) → Invariant m w log
     → Invariant (outcome c m).machine (w + (outcome c m).writes) (log_call c m log)
-call_kept (Load name body origin place) m w log i = load_kept name body origin place m w log i
+call_kept (Place name body at) m w log i = place_kept name body at m w log i
+call_kept (Start name at) m w log i = start_kept name at m w log i
 call_kept Step m w log i = step_kept m w log i
 call_kept (Run c) m w log i = run-kept c m w log i
 
@@ -229,6 +266,7 @@ fresh-account rules core queue =
       names = λ n. refl;
       idle = λ n z. refl;
       others = λ n z. refl;
+      never_started = λ n z. (refl, refl);
     }
 
 -- DEMAND 3

@@ -14,7 +14,7 @@ use Rattle.types.specs.declared.field.Field.{Field}
 use Rattle.offset.specs.Offset.{ahead}
 use Rattle.cell.specs.Cells.{packed, fresh_cell}
 use Rattle.machine.specs.State.{Machine}
-use Rattle.machine.specs.Load.{placed}
+use Rattle.machine.specs.Place.{placed}
 use Rattle.machine.specs.Pointers.{Shift, keeps, lowers, raises, shifts, located, less, more, changed, before, after, shifted, Site, operand}
 use Rattle.machine.specs.Instruction.{store_to, stored_at}
 use Rattle.machine.specs.Step.{operand_a, operand_b, effect, core_after, step_writes}

@@ -1,4 +1,4 @@
--- Single calls: what the program does with a list of them, and the log that 01's machine keeps (the mission, demand 3; 01, 'One step', last paragraph).
+-- Single calls: what the program does with a list of them, and the log that 01's machine keeps (the mission, demand 3; 01, 'One step', last paragraph; 02, A.5).
 -- Believed. Assumes nothing.
 use Rattle.std.specs.Prelude.{ℕ, zero, suc, ◌+◌, ◌-◌, cond, List, [], ◌∷◌, eqb}
 use Rattle.program.specs.Program.{instructions}
@@ -6,18 +6,21 @@ use Rattle.metadata.specs.Metadata.{called}
 use Rattle.machine.specs.State.{Machine, Outcome}
 use Rattle.machine.specs.Queue.{front, name_of}
 use Rattle.machine.specs.Soundness.{sound_header}
-use Rattle.machine.specs.Load.{load}
+use Rattle.machine.specs.Place.{place}
+use Rattle.machine.specs.Start.{start}
 use Rattle.machine.specs.Step.{step, executes}
 use Rattle.machine.specs.Run.{Ceiling, ceiling_of, run}
 
 -- a single call with its arguments
 pub data Call : Type 0 where
-  Load : (name body : List ℕ) (origin place : ℕ) → Call
+  Place : (name body : List ℕ) (place : ℕ) → Call
+  Start : (name : List ℕ) (place : ℕ) → Call
   Step : Call
   Run : (ceiling : Ceiling) → Call
 
 abbrev pub outcome : Call → Machine → Outcome
-outcome (Load name body origin place) m = load m name body origin place
+outcome (Place name body at) m = place m name body at
+outcome (Start name at) m = start m name at
 outcome Step m = step m
 outcome (Run ceiling) m = run ceiling m
 
@@ -31,10 +34,11 @@ abbrev pub reported : {C : Type 0} → (C → Machine → Outcome) → List C �
 reported does [] m = 0
 reported does (c ∷ cs) m = (does c m).writes + reported does cs (does c m).machine
 
--- 01'S MACHINE. Its log has a load that was accepted: name, instructions, writes; and an instruction that was executed:
--- the popped entry's name, pushes, writes. The newest stands first
+-- 01'S MACHINE. Its log has a body that was placed: name, instructions, writes; a process that was started: name, writes; and an instruction
+-- that was executed: the popped entry's name, pushes, writes. The newest stands first
 pub data Event : Type 0 where
-  loaded : (name : List ℕ) (instructions writes : ℕ) → Event
+  placed : (name : List ℕ) (instructions writes : ℕ) → Event
+  started : (name : List ℕ) (writes : ℕ) → Event
   executed : (name : List ℕ) (pushes writes : ℕ) → Event
 
 -- an accepted call is one it answers 0
@@ -54,8 +58,8 @@ abbrev pub log_run : Ceiling → Machine → List Event → List Event
 log_run ceiling m log = cond (sound_header m) (log_steps (ceiling_of ceiling - m.header.steps) m log) log
 
 abbrev pub log_call : Call → Machine → List Event → List Event
-log_call (Load name body origin place) m log =
-    let o = load m name body origin place in log_if o (loaded (called name) (instructions body) o.writes) log
+log_call (Place name body at) m log = let o = place m name body at in log_if o (placed (called name) (instructions body) o.writes) log
+log_call (Start name at) m log = let o = start m name at in log_if o (started (called name) o.writes) log
 log_call Step m log = log_step m log
 log_call (Run ceiling) m log = log_run ceiling m log
 

@@ -12,25 +12,25 @@ use Rattle.machine.specs.Step.{step, executes}
 use Rattle.machine.specs.Run.{read}
 use Rattle.account.specs.Calls.{left, Event}
 use Rattle.account.specs.Lists.{Listed, outcome_of}
-use Rattle.account.specs.Account.{Account, load_of, child_of, ending_of, since_ending}
+use Rattle.account.specs.Account.{Account, start_of, child_of, ending_of, since_ending}
 
--- where the account holds of a record and of what 01's machine tells: a name has no entry left exactly when it has as many endings as accepted loads and children;
+-- where the account holds of a record and of what 01's machine tells: a name has no entry left exactly when it has as many endings as accepted starts and children;
 -- then its count is 0, and it has executed nothing since its last ending
 abbrev pub NoEntryLeft : Type 0
 NoEntryLeft =
     (m : Machine) (w : ℕ) (log : List Event) → Account m w log → (n : List ℕ)
-    → tally (ending_of n) log ≡ tally (load_of n) log + tally (child_of n) log → entries_of m n ≡ 0
+    → tally (ending_of n) log ≡ tally (start_of n) log + tally (child_of n) log → entries_of m n ≡ 0
 
 abbrev pub NoEntryLeftSays : Type 0
 NoEntryLeftSays =
     (m : Machine) (w : ℕ) (log : List Event) → Account m w log → (n : List ℕ)
-    → entries_of m n ≡ 0 → (tally (ending_of n) log ≡ tally (load_of n) log + tally (child_of n) log) × (count_of m.header n ≡ 0) × (since_ending n log ≡ 0)
+    → entries_of m n ≡ 0 → (tally (ending_of n) log ≡ tally (start_of n) log + tally (child_of n) log) × (count_of m.header n ≡ 0) × (since_ending n log ≡ 0)
 
 -- with fewer endings the name runs on, whatever ended: it has entries, as many as its count
 abbrev pub RunsOn : Type 0
 RunsOn =
     (m : Machine) (w : ℕ) (log : List Event) → Account m w log → (n : List ℕ)
-    → tally (ending_of n) log < tally (load_of n) log + tally (child_of n) log → (1 ≤ entries_of m n) × (count_of m.header n ≡ entries_of m n)
+    → tally (ending_of n) log < tally (start_of n) log + tally (child_of n) log → (1 ≤ entries_of m n) × (count_of m.header n ≡ entries_of m n)
 
 -- after every list of calls from a machine just made
 abbrev pub reached : Rules → List ℕ → List ℕ → List Listed → Machine

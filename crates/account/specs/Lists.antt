@@ -1,11 +1,11 @@
--- Demand 3's lists: single calls, and whole matches loaded in one call, each of which counts as the single loads that it made (02, A.1).
+-- Demand 3's lists: single calls, and whole matches loaded in one call, each of which counts as the places and starts that it made (02, A.1 and A.5).
 -- The theorem is in proofs/Spread.antt.
 -- Believed. Assumes nothing.
 use Rattle.std.specs.Prelude.{ℕ, zero, suc, ◌+◌, ◌≡◌, cond, List, [], ◌∷◌, ◌++◌, eqb}
 use Rattle.machine.specs.State.{Machine, Outcome, passes}
 use Rattle.match_file.specs.Reading.{warriors_in, warrior_of}
-use Rattle.match_load.specs.Loading.{match_checks, load_match}
-use Rattle.account.specs.Calls.{Call, Load, outcome, left, reported, Event, logged}
+use Rattle.match_load.specs.Loading.{started_at, match_checks, load_match}
+use Rattle.account.specs.Calls.{Call, Place, Start, outcome, left, reported, Event, logged}
 
 -- a call of a list: a single one, or every warrior of a match file loaded
 pub data Listed : Type 0 where
@@ -16,21 +16,20 @@ abbrev pub outcome_of : Listed → Machine → Outcome
 outcome_of (One c) m = outcome c m
 outcome_of (LoadMatch file) m = (load_match m file).outcome
 
--- the single load of warrior k of a file
-abbrev pub load_call : List ℕ → ℕ → Call
-load_call f k = let w = warrior_of f k in Load w.name w.body w.origin w.place
+-- of n warriors of a file from warrior k on, the place and the start of each
+abbrev pub calls_in : List ℕ → ℕ → ℕ → List Call
+calls_in f k zero = []
+calls_in f k (suc n) = let w = warrior_of f k in Place w.name w.body w.place ∷ Start w.name (started_at f k) ∷ calls_in f (k + 1) n
 
--- of n warriors from warrior k on, the single loads that are made, a refused one last
-abbrev pub loads_made : List ℕ → ℕ → ℕ → Machine → List Call
-loads_made f k zero m = []
-loads_made f k (suc n) m =
-    let o = outcome (load_call f k) m in
-    load_call f k ∷ cond (eqb o.number 0) (loads_made f (k + 1) n o.machine) []
+-- of calls those that are made, one after the other up to the first that is refused, a refused one last
+abbrev pub made : List Call → Machine → List Call
+made [] m = []
+made (c ∷ cs) m = let o = outcome c m in c ∷ cond (eqb o.number 0) (made cs o.machine) []
 
--- the single calls as which a call counts; a match that is refused before its loads made none
+-- the single calls as which a call counts; a match that is refused before its first place made none
 abbrev pub singles : Listed → Machine → List Call
 singles (One c) m = c ∷ []
-singles (LoadMatch file) m = cond (passes (match_checks m file)) (loads_made file 0 (warriors_in file) m) []
+singles (LoadMatch file) m = cond (passes (match_checks m file)) (made (calls_in file 0 (warriors_in file)) m) []
 
 -- a list as single calls
 abbrev pub spread : List Listed → Machine → List Call

@@ -16,7 +16,7 @@ use Rattle.machine.proofs.Whole.{whole}
 use Rattle.machine.proofs.ProcessLimit.{process-limit}
 use Rattle.lent.specs.Given.{Given}
 use Rattle.account.specs.Calls.{Step, Event, left, reported}
-use Rattle.account.specs.Lists.{outcome_of, spread, logged_of}
+use Rattle.account.specs.Lists.{outcome_of, logged_of}
 use Rattle.account.specs.Account.{Account}
 use Rattle.account.proofs.Spread.{spreads}
 use Rattle.account.proofs.Account.{account}
@@ -27,27 +27,31 @@ use Rattle.draft.specs.Agreement.{Drafted}
 use Rattle.draft.proofs.Agreement.{agreement}
 use Rattle.reference.specs.Core.{Core, new}
 use Rattle.reference.specs.Refinement.{Domain, Agrees}
+use Rattle.reference.proofs.Compared.{same-compared}
 use Rattle.reference.proofs.Refinement.{refinement}
 use Rattle.round_trip.proofs.RoundTrip.{first_reads, added_reads, writes_back}
 use Rattle.match_format.specs.Faults.{fault, fault_at}
 use Rattle.match_file.specs.Reading.{contents_in, line_in}
 use Rattle.match_file.proofs.Values.{read-told}
 use Rattle.demands.specs.Promise.{Promise}
-use Rattle.demands.specs.Made.{JustMade, Reply, Made, calls, last, MadeAgrees}
+use Rattle.demands.specs.Made.{JustMade, calls, last}
+use Rattle.demands.specs.Beside.{Beside, MadeBeside, compared, MadeAgrees}
 use Rattle.demands.specs.Demands.{Demand1, Demand2, Demand3, Facts}
 use Rattle.demands.proofs.Kept.{code-keeps}
-use Rattle.demands.proofs.Refusals.{fresh-refuses, exported-fresh-refuses, load-refuses, step-refuses, cell-refuses, cell-zero, default-refuses}
+use Rattle.demands.proofs.Refusals.{fresh-refuses, exported-fresh-refuses, place-refuses, start-refuses, step-refuses, cell-refuses, cell-zero, default-refuses}
 use Rattle.demands.proofs.Runs.{run-refuses}
 use Rattle.demands.proofs.Matches.{match-refuses}
 use Rattle.demands.proofs.Files.{file-refuses, file-zero, line-refuses, first-refuses, added-refuses}
-use Rattle.demands.proofs.Lists.{just-made, made-follows, made-agrees}
+use Rattle.demands.proofs.Lists.{just-made, made-follows}
+use Rattle.demands.proofs.Beside.{made-agrees}
 
 pub demand-1 : Demand1
 demand-1 =
     record {
       fresh = fresh-refuses;
       fresh_exported = exported-fresh-refuses;
-      load = load-refuses;
+      place = place-refuses;
+      start = start-refuses;
       step = step-refuses;
       run = run-refuses;
       load_match = match-refuses;
@@ -67,7 +71,7 @@ draft_made m g e t d =
     subst (λ (x : Given). executes x.told.number ≡ true → Drafted m x.machine) (sym e) (λ t. agreement m t d) t
 
 rust_made : (rules : Rules) (core queue : List ℕ) (m : Machine) → Unlimited rules → JustMade rules core queue m
-    → (c : Core) × (new rules.size ≡ some c) × ((made : List Reply) → Made made m → Domain (spread (calls made) m) m → MadeAgrees made m c)
+    → (c : Core) × (new rules.size ≡ some c) × ((made : List Beside) → MadeBeside made m → Domain (compared made m) m → MadeAgrees made m c)
 rust_made rules core queue m u started =
     let s = just-made rules core queue m started in
     let r = refinement rules core queue u s.0 in (
@@ -75,8 +79,7 @@ rust_made rules core queue m u started =
       r.1,
       λ made h d.
           made-agrees made m r.0 h
-          (subst (λ (n : Machine). Agrees (spread (calls made) n) n r.0) (sym s.1)
-          (r.2 (calls made) (subst (λ (n : Machine). Domain (spread (calls made) n) n) s.1 d))),
+          (subst (λ (n : Machine). Agrees (compared made m) n r.0) (sym s.1) (r.2 (compared made m) (subst (λ (n : Machine). Domain (compared made m) n) s.1 d))),
     )
 
 pub demand-2 : Demand2
@@ -88,6 +91,7 @@ demand-2 =
       code = code-keeps;
       machine = made-follows;
       rust = refinement;
+      rust_calls = same-compared;
       rust_made = rust_made;
       first_reads = first_reads;
       added_reads = added_reads;

@@ -1,7 +1,7 @@
--- A list of calls that the program made leaves 01's record, reports its writes, and agrees with the Rust where 01's machine does; any list of calls can be made.
+-- A list of calls that the program made leaves 01's record and reports its writes; any list of calls can be made.
 -- Assumes nothing.
 use Prim.Native.Nat.{ℕ, ◌+◌}
-use mathlib.Core.Path.{◌≡◌, refl, sym, ap, ap₂, subst, ◌∙◌}
+use mathlib.Core.Path.{◌≡◌, refl, sym, ap, ap₂, ◌∙◌}
 use mathlib.Core.List.{List, [], ◌∷◌}
 use mathlib.Core.Logic.{inl, inr}
 use Rattle.machine.specs.declared.Rules.{Rules}
@@ -9,16 +9,14 @@ use Rattle.machine.specs.State.{Machine}
 use Rattle.machine.specs.Fresh.{fresh}
 use Rattle.lent.specs.Given.{Given, given_by}
 use Rattle.match_load.specs.Loading.{load_match}
-use Rattle.account.specs.Calls.{Load, Step, Run, left, reported}
-use Rattle.account.specs.Lists.{Listed, One, LoadMatch, outcome_of, singles, spread}
-use Rattle.reference.specs.Core.{Core}
-use Rattle.reference.specs.Refinement.{Agrees}
+use Rattle.account.specs.Calls.{Place, Start, Step, Run, left, reported}
+use Rattle.account.specs.Lists.{Listed, One, LoadMatch, outcome_of}
 use Rattle.demands.specs.Promise.{ListedPromise}
-use Rattle.demands.specs.Made.{JustMade, Reply, Made, calls, last, written, returned_last, MadeAgrees}
-use Rattle.demands.proofs.Answers.{agrees-same, call-agrees}
+use Rattle.demands.specs.Made.{JustMade, Reply, Made, calls, last, written}
 
-gave-is : (x : Listed) (m : Machine) (g : Given) → ListedPromise x m g → g ≡ given_by (outcome_of x m)
-gave-is (One (Load name body origin place)) m g e = e
+pub gave-is : (x : Listed) (m : Machine) (g : Given) → ListedPromise x m g → g ≡ given_by (outcome_of x m)
+gave-is (One (Place name body at)) m g e = e
+gave-is (One (Start name at)) m g e = e
 gave-is (One Step) m g e = e
 gave-is (One (Run ceiling)) m g e = e
 gave-is (LoadMatch f) m g e = e.1.0
@@ -41,19 +39,6 @@ just-made rules core queue m (inl e) = (sym e.0, e.1)
 just-made rules core queue m (inr e) =
     (sym (ap (λ (g : Given). g.told.number) e.1) ∙ e.2, sym e.3 ∙ ap (λ (g : Given). g.machine) e.1)
 
--- the Rust agrees with the program where it agrees with 01's machine
-pub made-agrees : (made : List Reply) (m : Machine) (c : Core) → Made made m → Agrees (spread (calls made) m) m c → MadeAgrees made m c
-made-agrees [] m c h a = a
-made-agrees (x ∷ xs) m c h a =
-    let e = gave-is x.call m x.gave h.0 in
-    let o = outcome_of x.call m in
-    let r = call-agrees x.call (spread (calls xs) o.machine) m c a in
-    subst (λ (g : Given). MadeAgrees (record { call = x.call; gave = g } ∷ xs) m c) (sym e) (
-      agrees-same (spread (calls (x ∷ xs)) m) m c a,
-      r.0,
-      made-agrees xs o.machine (returned_last (singles x.call m) m c).core (subst (Made xs) (ap (λ (g : Given). g.machine) e) h.1) r.1,
-    )
-
 -- every list of calls can be made, from every record
 abbrev pub replies : List Listed → Machine → List Reply
 replies [] m = []
@@ -66,7 +51,8 @@ can-be-made (x ∷ xs) m =
     ((kept x m, r.0), ap (λ (l : List Listed). x ∷ l) r.1)
   where
     kept : (x : Listed) (m : Machine) → ListedPromise x m (given_by (outcome_of x m))
-    kept (One (Load name body origin place)) m = refl
+    kept (One (Place name body at)) m = refl
+    kept (One (Start name at)) m = refl
     kept (One Step) m = refl
     kept (One (Run ceiling)) m = refl
     kept (LoadMatch f) m = ((load_match m f).warrior, (refl, refl))

@@ -1,4 +1,4 @@
--- Demand 1 of fresh, load, step, cell reading and the default modifier: their definitions take the first row that applies.
+-- Demand 1 of fresh, place, start, step, cell reading and the default modifier: their definitions take the first row that applies.
 -- Assumes nothing.
 use Prim.Native.Nat.{ℕ}
 use mathlib.Core.Path.{◌≡◌, refl, sym, ap, subst, ◌∙◌}
@@ -21,14 +21,16 @@ use Rattle.machine.specs.declared.Rules.{Rules}
 use Rattle.machine.specs.State.{Machine, Outcome, done, Check, check, Verdict, accepted, refusal, first, passes, settle}
 use Rattle.machine.specs.Soundness.{sound_header, fresh_checks}
 use Rattle.machine.specs.Fresh.{fresh_machine, fresh, lent}
-use Rattle.machine.specs.Load.{loaded, load, load_checks}
+use Rattle.machine.specs.Place.{placing, place, place_checks}
+use Rattle.machine.specs.Start.{starting, start, start_checks}
 use Rattle.machine.specs.Step.{executed, step, step_checks, executes}
 use Rattle.machine.specs.Run.{word_at, read_checks, read}
 use Rattle.machine.proofs.Checks.{is_accepted, passes-accepted, number_of}
-use Rattle.machine.proofs.Load.{is-loaded}
+use Rattle.machine.proofs.Place.{is-placed}
+use Rattle.machine.proofs.Start.{is-started}
 use Rattle.machine.proofs.Step.{is-executed}
 use Rattle.lent.specs.Given.{Given, given_by}
-use Rattle.account.specs.Calls.{Load, Step}
+use Rattle.account.specs.Calls.{Place, Start, Step}
 use Rattle.demands.specs.Promise.{Promise, FreshPromise, FreshNumber, DefaultPromise}
 use Rattle.demands.specs.Refusals.{Refused, FreshRefused, CellRefused, CellZero, DefaultRefused}
 
@@ -50,14 +52,22 @@ settled : (rows : List Check) (others : List ℕ) (m : Machine) (o : Outcome) �
 settled rows others m o none does =
     record { by = λ n v e. ap (λ (w : Verdict). given_by (settle w m o)) e; exactly = settled-exactly (among others) rows m o none does }
 
-pub load-refuses : (name body : List ℕ) (origin place : ℕ) (m : Machine) (g : Given) → Promise (Load name body origin place) m g
-    → Refused (load_checks m name body place) (0 ∷ []) m g
-unfolding load
-load-refuses name body origin place m g e =
-    subst (Refused (load_checks m name body place) (0 ∷ []) m) (sym e)
-    (settled (load_checks m name body place) (0 ∷ []) m (loaded m (called name) body origin place)
-    (number_of (λ n. among (0 ∷ []) n ≡ false) (load_checks m name body place) (refl and refl and refl and refl and refl and refl and refl and tt))
-    (ap (among (0 ∷ [])) (is-loaded m name body origin place).number))
+pub place-refuses : (name body : List ℕ) (at : ℕ) (m : Machine) (g : Given) → Promise (Place name body at) m g
+    → Refused (place_checks m name body at) (0 ∷ []) m g
+unfolding place
+place-refuses name body at m g e =
+    subst (Refused (place_checks m name body at) (0 ∷ []) m) (sym e)
+    (settled (place_checks m name body at) (0 ∷ []) m (placing m (called name) body at)
+    (number_of (λ n. among (0 ∷ []) n ≡ false) (place_checks m name body at) (refl and refl and refl and refl and refl and tt))
+    (ap (among (0 ∷ [])) (is-placed m name body at).number))
+
+pub start-refuses : (name : List ℕ) (at : ℕ) (m : Machine) (g : Given) → Promise (Start name at) m g → Refused (start_checks m name at) (0 ∷ []) m g
+unfolding start
+start-refuses name at m g e =
+    subst (Refused (start_checks m name at) (0 ∷ []) m) (sym e)
+    (settled (start_checks m name at) (0 ∷ []) m (starting m (called name) at)
+    (number_of (λ n. among (0 ∷ []) n ≡ false) (start_checks m name at) (refl and refl and refl and refl and refl and tt))
+    (ap (among (0 ∷ [])) (is-started m name at).number))
 
 pub step-refuses : (m : Machine) (g : Given) → Promise Step m g → Refused (step_checks m) (0 ∷ 11 ∷ 12 ∷ []) m g
 unfolding step

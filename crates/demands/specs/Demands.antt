@@ -12,18 +12,20 @@ use Rattle.machine.specs.State.{Machine}
 use Rattle.machine.specs.Soundness.{fresh_checks}
 use Rattle.machine.specs.Battles.{BattlesHold}
 use Rattle.machine.specs.Fresh.{fresh, lent}
-use Rattle.machine.specs.Load.{load_checks}
+use Rattle.machine.specs.Place.{place_checks}
+use Rattle.machine.specs.Start.{start_checks}
 use Rattle.machine.specs.Step.{step_checks, executes}
 use Rattle.machine.specs.Whole.{Unlimited, Whole}
 use Rattle.machine.specs.ProcessLimit.{ProcessLimit}
 use Rattle.lent.specs.Given.{Given}
-use Rattle.account.specs.Calls.{Load, Step, Run, left, reported}
-use Rattle.account.specs.Lists.{outcome_of, spread, logged_of, Spread}
+use Rattle.account.specs.Calls.{Place, Start, Step, Run, left, reported}
+use Rattle.account.specs.Lists.{outcome_of, logged_of, Spread}
 use Rattle.account.specs.Account.{Account}
 use Rattle.account.specs.Endings.{NoEntryLeft, NoEntryLeftSays, RunsOn, EndedOne, AnswerSays, NeverNine, ReadingDone}
 use Rattle.draft.specs.Departures.{departs}
 use Rattle.draft.specs.Agreement.{Drafted, Agreement}
 use Rattle.reference.specs.Core.{Core, new}
+use Rattle.reference.specs.Compared.{SameCompared}
 use Rattle.reference.specs.Refinement.{Domain, Refinement}
 use Rattle.match_format.specs.Format.{Warrior}
 use Rattle.match_format.specs.Faults.{fault}
@@ -37,25 +39,27 @@ use Rattle.sumacadze.specs.declared.file.Line as exported
 use Rattle.round_trip.specs.RoundTrip.{FirstReads, AddedReads, WritesBack}
 use Rattle.demands.specs.Promise.{Promise, MatchPromise, FreshPromise, FreshNumber, CellPromise, CellNumber, DefaultPromise, FilePromise, FileNumbers, LinePromise, LineNumbers, FirstPromise, AddedPromise}
 use Rattle.demands.specs.Kept.{CodeKeeps}
-use Rattle.demands.specs.Made.{JustMade, Reply, Made, calls, last, written, MadeAgrees}
+use Rattle.demands.specs.Made.{JustMade, Reply, Made, calls, last, written}
+use Rattle.demands.specs.Beside.{Beside, MadeBeside, compared, MadeAgrees}
 use Rattle.demands.specs.Refusals.{Refused, FreshRefused, CellRefused, CellZero, RunRefused, MatchRefused, DefaultRefused, FileRefused, FileZero, LineRefused, WriteRefused}
 
 -- DEMAND 1. A call refuses by 01's numbers, in 01's order, and leaves the machine as it was (a run: as its last step left it; a match loaded in one
--- call: as the load before the refused one left it); what no row names is accepted.
+-- call: as the places and starts before the refused one left it); what no row names is accepted.
 -- That a call ends and stays inside the lent memory holds by the language, of every function that is proved; `Keeps` says it of each of these.
 -- The theorem is `demand-1` (proofs/Demands.antt)
 pub record Demand1 : Type 0 where
   -- Fresh: 1, 2, 14
   pub fresh : (rules : Rules) (core queue : List ℕ) (g : Given) → FreshPromise rules core queue g → Refused (fresh_checks rules core queue) (0 ∷ []) (lent core queue) g
   pub fresh_exported : (rules : Rules) (core queue : List ℕ) (number : ℕ) (m : Machine) → FreshNumber rules core queue number m → FreshRefused rules core queue number m
-  -- Load: 9 (header), 3, 4, 5, 6, 8
-  pub load : (name body : List ℕ) (origin place : ℕ) (m : Machine) (g : Given) → Promise (Load name body origin place) m g
-      → Refused (load_checks m name body place) (0 ∷ []) m g
+  -- Place: 9 (header), 3, 4, 5, 6
+  pub place : (name body : List ℕ) (at : ℕ) (m : Machine) (g : Given) → Promise (Place name body at) m g → Refused (place_checks m name body at) (0 ∷ []) m g
+  -- Start: 9 (header), 5, 6, 8
+  pub start : (name : List ℕ) (at : ℕ) (m : Machine) (g : Given) → Promise (Start name at) m g → Refused (start_checks m name at) (0 ∷ []) m g
   -- Step: 9 (header), 7, 9 (front entry), 8, 9 (executed cell), 10, 9 (other cells read)
   pub step : (m : Machine) (g : Given) → Promise Step m g → Refused (step_checks m) (0 ∷ 11 ∷ 12 ∷ []) m g
   -- Run: 9 (header), then its steps
   pub run : (ceiling : Ceiling) (m : Machine) (g : Given) → Promise (Run ceiling) m g → RunRefused ceiling m g
-  -- A match in one call: 9 (header), 13, 1, then its loads
+  -- A match in one call: 9 (header), 13, 1, then its places and starts
   pub load_match : (f : List ℕ) (m : Machine) (g : Given) (warrior : ℕ) → MatchPromise f m g warrior → MatchRefused f m g warrior
   -- Cell reading: 9 (header), 9 (cell)
   pub get : (m : Machine) (z : ℤ) (r : Result Cell Error) → CellPromise m z r → CellRefused m z (told r).number
@@ -78,22 +82,24 @@ pub record Demand2 : Type 2 where
   -- its next places; and so does a step that the program made
   pub draft : Agreement
   pub draft_made : (m : Machine) (g : Given) → Promise Step m g → executes g.told.number ≡ true → departs m ≡ false → Drafted m g.machine
-  -- 01's machine: its battles; each function's own contract says that machine's load, match in one call, step and run; and so it is with every list of them that
+  -- 01's machine: its battles; each function's own contract says that machine's place, start, match in one call, step and run; and so it is with every list of them that
   -- the program made
   pub battles : BattlesHold
   pub code : CodeKeeps
   pub machine : (made : List Reply) (m : Machine) → Made made m → (last made m ≡ left outcome_of (calls made) m) × (written made ≡ reported outcome_of (calls made) m)
-  -- The Rust, in its domain, both limits M: core, queue, thread numbers, counts, steps and ending; and so for the program
+  -- The Rust, in its domain, both limits M, a load of it being a place followed by a start: core, queue, thread numbers, counts, steps and ending; and so for
+  -- the program
   pub rust : Refinement
+  pub rust_calls : SameCompared
   pub rust_made : (rules : Rules) (core queue : List ℕ) (m : Machine) → Unlimited rules → JustMade rules core queue m
-      → (c : Core) × (new rules.size ≡ some c) × ((made : List Reply) → Made made m → Domain (spread (calls made) m) m → MadeAgrees made m c)
+      → (c : Core) × (new rules.size ≡ some c) × ((made : List Beside) → MadeBeside made m → Domain (compared made m) m → MadeAgrees made m c)
   -- Round trips: what was written reads back
   pub first_reads : FirstReads
   pub added_reads : AddedReads
   -- and what the writer accepts of a file is written back byte for byte
   pub writes_back : WritesBack
 
--- DEMAND 3. Whatever loads, matches loaded in one call, steps and runs the program made, refused ones among them, on a machine that fresh had made: the
+-- DEMAND 3. Whatever places, starts, matches loaded in one call, steps and runs the program made, refused ones among them, on a machine that fresh had made: the
 -- account holds of the program's last record and of the writes that it reported, against what 01's machine tells of the same calls. That machine is never
 -- shown the program's record: it has memories of its own, as long as those lent to fresh. The account's sentences are the fields of `Account`
 -- (crates/account/specs/Account.antt).
@@ -105,7 +111,7 @@ Demand3 =
     → (made : List Reply) → Made made m
     → Account (last made m) (written made) (logged_of (calls made) (fresh rules own_core own_queue).machine [])
 
--- BESIDE THE DEMANDS. A match loaded in one call counts as the single loads that it made; with both limits M all is as before; the process limit belongs to each warrior; what the mission tells
+-- BESIDE THE DEMANDS. A match loaded in one call counts as the places and starts that it made; with both limits M all is as before; the process limit belongs to each warrior; what the mission tells
 -- apart, that a name has no entry left and that one entry of a name has ended; and that no call answers 9.
 -- The theorem is `facts` (proofs/Demands.antt)
 pub record Facts : Type 0 where

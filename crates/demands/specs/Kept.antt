@@ -15,7 +15,7 @@ use denote.Triple.Clauses.{Ended, AtExit, Clauses, closing}
 use Rattle.answer.specs.Numbers.{told, gives}
 use Rattle.lent.specs.Parts.{machine_of}
 use Rattle.lent.specs.Given.{given}
-use Rattle.account.specs.Calls.{Load, Step, Run}
+use Rattle.account.specs.Calls.{Place, Start, Step, Run}
 use Rattle.match_format.specs.Format.{handed}
 use Rattle.write_checks.specs.Refusal as writing
 use Rattle.sumacadze.specs.Report.{ceiling_if, cell_of}
@@ -23,8 +23,10 @@ use Rattle.sim.specs.contracts.fresh as fresh
 use Rattle.sim.proofs.fresh.Symbol as fresh_code
 use Rattle.sim.specs.contracts.get as get
 use Rattle.sim.proofs.get.Symbol as get_code
-use Rattle.warrior.specs.contracts.load as load
-use Rattle.warrior.proofs.load.Symbol as load_code
+use Rattle.warrior.specs.contracts.place as place
+use Rattle.warrior.proofs.place.Symbol as place_code
+use Rattle.warrior.specs.contracts.start as start
+use Rattle.warrior.proofs.start.Symbol as start_code
 use Rattle.cycle.specs.contracts.step as step
 use Rattle.cycle.proofs.step.Symbol as step_code
 use Rattle.cycle.specs.contracts.run as run
@@ -49,8 +51,10 @@ use Rattle.sumacadze.specs.contracts.sumacadze_fresh as sumacadze_fresh
 use Rattle.sumacadze.proofs.sumacadze_fresh.Symbol as sumacadze_fresh_code
 use Rattle.sumacadze.specs.contracts.sumacadze_get as sumacadze_get
 use Rattle.sumacadze.proofs.sumacadze_get.Symbol as sumacadze_get_code
-use Rattle.sumacadze.specs.contracts.sumacadze_load as sumacadze_load
-use Rattle.sumacadze.proofs.sumacadze_load.Symbol as sumacadze_load_code
+use Rattle.sumacadze.specs.contracts.sumacadze_place as sumacadze_place
+use Rattle.sumacadze.proofs.sumacadze_place.Symbol as sumacadze_place_code
+use Rattle.sumacadze.specs.contracts.sumacadze_start as sumacadze_start
+use Rattle.sumacadze.proofs.sumacadze_start.Symbol as sumacadze_start_code
 use Rattle.sumacadze.specs.contracts.sumacadze_step as sumacadze_step
 use Rattle.sumacadze.proofs.sumacadze_step.Symbol as sumacadze_step_code
 use Rattle.sumacadze.specs.contracts.sumacadze_run as sumacadze_run
@@ -88,9 +92,12 @@ pub record CodeKeeps : Type 2 where
   pub fresh : Keeps fresh.ended fresh_code.code fresh_code.name (λ κs a r e. FreshPromise a.0 a.1.0.now a.1.1.0.now
       (given (told r.answer) r.writes r.steps (machine_of e.1.0.now e.1.1.0.now r.header)))
   pub get : Keeps get.ended get_code.code get_code.name (λ κs a r e. CellPromise (machine_of a.0.now a.1.0.now a.1.1.0) a.1.1.1.0 r)
-  pub load : Keeps load.ended load_code.code load_code.name (λ κs a r e.
-      Promise (Load a.1.1.1.0.name.now a.1.1.1.0.body.now a.1.1.1.0.origin a.1.1.1.0.place) (machine_of a.0.now a.1.0.now a.1.1.0)
-      (given (told r.answer) r.writes r.steps (machine_of e.0.now e.1.0.now r.header)))
+  pub place : Keeps place.ended place_code.code place_code.name (λ κs a r e.
+      Promise (Place a.1.1.1.0.now a.1.1.1.1.0.now a.1.1.1.1.1.0) (machine_of a.0.now a.1.0.now a.1.1.0)
+      (given (told r.answer) r.writes r.steps (machine_of e.0.now a.1.0.now r.header)))
+  pub start : Keeps start.ended start_code.code start_code.name (λ κs a r e.
+      Promise (Start a.1.1.1.0.now a.1.1.1.1.0) (machine_of a.0.now a.1.0.now a.1.1.0)
+      (given (told r.answer) r.writes r.steps (machine_of a.0.now e.1.0.now r.header)))
   pub step : Keeps step.ended step_code.code step_code.name (λ κs a r e. Promise Step (machine_of a.0.now a.1.0.now a.1.1.0)
       (given (told r.answer) r.writes r.steps (machine_of e.0.now e.1.0.now r.header)))
   pub run : Keeps run.ended run_code.code run_code.name (λ κs a r e. Promise (Run a.1.1.1.0) (machine_of a.0.now a.1.0.now a.1.1.0)
@@ -98,14 +105,17 @@ pub record CodeKeeps : Type 2 where
   pub load_match : Keeps load_match.ended load_match_code.code load_match_code.name (λ κs a r e.
       MatchPromise a.1.1.1.0.now (machine_of a.0.now a.1.0.now a.1.1.0)
       (given (told r.outcome.answer) r.outcome.writes r.outcome.steps (machine_of e.0.now e.1.0.now r.outcome.header)) r.warrior)
-  -- exported (crate sumacadze): of load, step and run the header is lent, and changed in place
+  -- exported (crate sumacadze): of place, start, step and run the header is lent, and changed in place
   pub sumacadze_fresh : Keeps sumacadze_fresh.ended sumacadze_fresh_code.code sumacadze_fresh_code.name (λ κs a r e.
       FreshNumber a.0 a.1.0.now a.1.1.0.now r.number (machine_of e.1.0.now e.1.1.0.now r.header))
   pub sumacadze_get : Keeps sumacadze_get.ended sumacadze_get_code.code sumacadze_get_code.name (λ κs a r e. CellNumber (machine_of a.0.now a.1.0.now a.1.1.0) a.1.1.1.0
       r.number (cell_of r.opcode r.modifier r.a_mode r.b_mode r.a r.b))
-  pub sumacadze_load : Keeps sumacadze_load.ended sumacadze_load_code.code sumacadze_load_code.name (λ κs a r e.
-      Promise (Load a.1.1.1.0.now a.1.1.1.1.0.now a.1.1.1.1.1.0 a.1.1.1.1.1.1.0) (machine_of a.0.now a.1.0.now a.1.1.0.now)
-      (given (gives r.number r.value) r.writes r.steps (machine_of e.0.now e.1.0.now e.1.1.0.now)))
+  pub sumacadze_place : Keeps sumacadze_place.ended sumacadze_place_code.code sumacadze_place_code.name (λ κs a r e.
+      Promise (Place a.1.1.1.0.now a.1.1.1.1.0.now a.1.1.1.1.1.0) (machine_of a.0.now a.1.0.now a.1.1.0.now)
+      (given (gives r.number r.value) r.writes r.steps (machine_of e.0.now a.1.0.now e.1.1.0.now)))
+  pub sumacadze_start : Keeps sumacadze_start.ended sumacadze_start_code.code sumacadze_start_code.name (λ κs a r e.
+      Promise (Start a.1.1.1.0.now a.1.1.1.1.0) (machine_of a.0.now a.1.0.now a.1.1.0.now)
+      (given (gives r.number r.value) r.writes r.steps (machine_of a.0.now e.1.0.now e.1.1.0.now)))
   pub sumacadze_step : Keeps sumacadze_step.ended sumacadze_step_code.code sumacadze_step_code.name (λ κs a r e. Promise Step (machine_of a.0.now a.1.0.now a.1.1.0.now)
       (given (gives r.number r.value) r.writes r.steps (machine_of e.0.now e.1.0.now e.1.1.0.now)))
   pub sumacadze_run : Keeps sumacadze_run.ended sumacadze_run_code.code sumacadze_run_code.name (λ κs a r e.

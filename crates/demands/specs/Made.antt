@@ -4,11 +4,7 @@ use Rattle.std.specs.Prelude.{ℕ, ◌+◌, ◌≡◌, List, [], ◌∷◌, ◌�
 use Rattle.machine.specs.declared.Rules.{Rules}
 use Rattle.machine.specs.State.{Machine}
 use Rattle.lent.specs.Given.{Given}
-use Rattle.account.specs.Calls.{Call, outcome}
-use Rattle.account.specs.Lists.{Listed, singles}
-use Rattle.reference.specs.Core.{Core, Ok, Returned}
-use Rattle.reference.specs.Same.{Same}
-use Rattle.reference.specs.Refinement.{answered, rust, matching}
+use Rattle.account.specs.Lists.{Listed}
 use Rattle.demands.specs.Promise.{ListedPromise, FreshPromise, FreshNumber}
 
 -- m is a machine just made by fresh: exported, or by value
@@ -41,18 +37,3 @@ last (x ∷ xs) m = last xs x.gave.machine
 abbrev pub written : List Reply → ℕ
 written [] = 0
 written (x ∷ xs) = x.gave.writes + written xs
-
--- the Rust over single calls, one after the other: what it returned last, Ok where there is none
-abbrev pub returned_last : List Call → Machine → Core → Returned
-returned_last [] m c = record { core = c; answer = Ok }
-returned_last (x ∷ []) m c = rust (answered (outcome x m).number) x m c
-returned_last (x ∷ y ∷ xs) m c = returned_last (y ∷ xs) (outcome x m).machine (rust (answered (outcome x m).number) x m c).core
-
--- the Rust beside the program: the states are the same before the calls and after each, and each answer is the Rust's; of a match loaded in one call,
--- its answer to the last load that was made
-abbrev pub MadeAgrees : List Reply → Machine → Core → Type 0
-MadeAgrees [] m c = Same m c
-MadeAgrees (x ∷ xs) m c =
-    let t = x.gave.told in
-    let r = returned_last (singles x.call m) m c in
-    Same m c × (r.answer ≡ matching (answered t.number) t.number t.value) × MadeAgrees xs x.gave.machine r.core

@@ -10,11 +10,12 @@ use Rattle.types.specs.Defaults.{default_of, defaulted}
 use Rattle.machine.specs.declared.Rules.{Rules}
 use Rattle.machine.specs.State.{Machine}
 use Rattle.machine.specs.Fresh.{fresh}
-use Rattle.machine.specs.Load.{load}
+use Rattle.machine.specs.Place.{place}
+use Rattle.machine.specs.Start.{start}
 use Rattle.machine.specs.Step.{step}
 use Rattle.machine.specs.Run.{run, read}
 use Rattle.lent.specs.Given.{Given, given_by}
-use Rattle.account.specs.Calls.{Call, Load, Step, Run}
+use Rattle.account.specs.Calls.{Call, Place, Start, Step, Run}
 use Rattle.account.specs.Lists.{Listed, One, LoadMatch}
 use Rattle.match_format.specs.Format.{Warrior}
 use Rattle.match_format.specs.Faults.{fault, fault_at}
@@ -26,9 +27,10 @@ use Rattle.write_checks.specs.Refusal.{Written}
 use Rattle.match_write.specs.Writing.{write_first, write_added}
 use Rattle.sumacadze.specs.declared.file.Line as exported
 
--- load, step and run, by value and exported: the answer, the writes, the steps and every field and memory of the record
+-- place, start, step and run, by value and exported: the answer, the writes, the steps and every field and memory of the record
 abbrev pub Promise : Call → Machine → Given → Type 0
-Promise (Load name body origin place) m g = g ≡ given_by (load m name body origin place)
+Promise (Place name body at) m g = g ≡ given_by (place m name body at)
+Promise (Start name at) m g = g ≡ given_by (start m name at)
 Promise Step m g = g ≡ given_by (step m)
 Promise (Run ceiling) m g = g ≡ given_by (run ceiling m)
 

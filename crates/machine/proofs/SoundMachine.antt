@@ -140,7 +140,7 @@ module _ (m : Machine) (given : List ℕ) (at : ℕ) (s : SoundMachine m) where
     unfolding placing
     placing-inside = rw (naming-entries m given (core-placed m given body at)) s.entries
 
-    placing-keeps : Placeable m given body at → SoundMachine (placing m (called given) body at).machine
+    pub placing-keeps : Placeable m given body at → SoundMachine (placing m (called given) body at).machine
     placing-keeps l =
         let i = is-placed m given body at in
         record {

@@ -9,19 +9,19 @@ use Rattle.machine.specs.Start.{start}
 use Rattle.machine.specs.Place.{place}
 use Rattle.machine.proofs.SoundMachine.{SoundMachine, place-keeps, start-keeps}
 use Rattle.match_file.specs.Reading.{warriors_in, warrior_of}
-use Rattle.match_load.specs.Loading.{Loads, start_of, place_and_start, loads, match_checks, after_checks, load_match}
+use Rattle.match_load.specs.Loading.{Loads, started_at, place_and_start, loads, match_checks, after_checks, load_match}
 use Rattle.match_load.proofs.Warrior.{place-start-by-cases}
 
 either : (P : Loads → Type 0) (b : Bool) (x y : Loads) → P x → P y → P (cond b x y)
 either P true x y p q = p
 either P false x y p q = q
 
-warrior-keeps : (f : List ℕ) (k : ℕ) (m : Machine) → SoundMachine m → SoundMachine (place_and_start f k m).machine
+pub warrior-keeps : (f : List ℕ) (k : ℕ) (m : Machine) → SoundMachine m → SoundMachine (place_and_start f k m).machine
 warrior-keeps f k m s =
     let w = warrior_of f k in
     let o = place m w.name w.body w.place in
     let p = place-keeps m w.name w.place s w.body in
-    place-start-by-cases (λ x. SoundMachine x.machine) o (start o.machine w.name (start_of f k)) p (start-keeps o.machine w.name (start_of f k) p)
+    place-start-by-cases (λ x. SoundMachine x.machine) o (start o.machine w.name (started_at f k)) p (start-keeps o.machine w.name (started_at f k) p)
 
 loads-keep : (f : List ℕ) (k n : ℕ) (m : Machine) → SoundMachine m → SoundMachine (loads f k n m).outcome.machine
 loads-keep f k zero m s = s

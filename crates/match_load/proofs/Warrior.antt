@@ -22,7 +22,7 @@ use Rattle.warrior.specs.Tested.{start_tested}
 use Rattle.warrior.proofs.Testing.{tested-place, tested-start}
 use Rattle.match_format.specs.Format.{Warrior}
 use Rattle.match_file.specs.Reading.{size_in, warrior_of}
-use Rattle.match_load.specs.Loading.{origin_of, start_of, place_and_start}
+use Rattle.match_load.specs.Loading.{origin_of, started_at, place_and_start}
 use Rattle.match_load.specs.Inner.Tested.{tested}
 
 -- the first outcome is refused, or the second follows
@@ -78,12 +78,12 @@ module _ (f : List ℕ) (k : ℕ) (m : Machine) where
   placing = place m w.name w.body w.place
 
   abbrev starting : Outcome
-  starting = start placing.machine w.name (start_of f k)
+  starting = start placing.machine w.name (started_at f k)
 
   pub no-steps : (place_and_start f k m).steps ≡ 0
   no-steps =
       let p = (place-fixed m w.name w.body w.place).4 in
-      let s = (start-fixed placing.machine w.name (start_of f k)).4 in
+      let s = (start-fixed placing.machine w.name (started_at f k)).4 in
       place-start-by-cases (λ o. o.steps ≡ 0) placing starting p (rw (p, s) refl)
 
   placing-writes : SoundHeader m → placing.writes ≤ 46341
@@ -96,13 +96,13 @@ module _ (f : List ℕ) (k : ℕ) (m : Machine) where
   pub few-writes : SoundHeader m → (place_and_start f k m).writes ≤ 46341
   few-writes s =
       let p = placing-writes s in
-      let q = (start-fixed placing.machine w.name (start_of f k)).5 in
+      let q = (start-fixed placing.machine w.name (started_at f k)).5 in
       place-start-by-cases (λ o. o.writes ≤ 46341) placing starting p (omega (arith, p, q))
 
   pub stays-sound : SoundHeader m → SoundHeader (place_and_start f k m).machine
   stays-sound s =
       let p = place-sound m w.name w.body w.place s in
-      place-start-by-cases (λ o. SoundHeader o.machine) placing starting p (start-sound placing.machine w.name (start_of f k) p)
+      place-start-by-cases (λ o. SoundHeader o.machine) placing starting p (start-sound placing.machine w.name (started_at f k) p)
 
   -- as the code gives it of a header that was tested before
   pub placed-and-started : {g : Given} (v : Warrior) → SoundHeader m → size_in f ≡ m.header.rules.size → v ≡ w

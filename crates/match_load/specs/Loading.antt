@@ -20,12 +20,12 @@ abbrev pub origin_of : ℕ → ℕ
 origin_of origin = cond (eqb origin 65535) 0 origin
 
 -- where warrior k of a file is started: at (place + origin) mod M
-abbrev pub start_of : List ℕ → ℕ → ℕ
-start_of f k = let w = warrior_of f k in ahead (size_in f) w.place (origin_of w.origin)
+abbrev pub started_at : List ℕ → ℕ → ℕ
+started_at f k = let w = warrior_of f k in ahead (size_in f) w.place (origin_of w.origin)
 
 -- warrior k of a file: its body is placed, then a process is started. A body whose start is refused stays placed, and its writes stand
 abbrev pub place_and_start : List ℕ → ℕ → Machine → Outcome
-place_and_start f k m = let w = warrior_of f k in and_then (place m w.name w.body w.place) (λ n. start n w.name (start_of f k))
+place_and_start f k m = let w = warrior_of f k in and_then (place m w.name w.body w.place) (λ n. start n w.name (started_at f k))
 
 -- n warriors from warrior k on, one by one in file order. At the first refused call the machine is as the calls before left it;
 -- the answer adds that warrior's number, and the writes are those that stand

@@ -23,7 +23,7 @@ use Rattle.encoding.specs.Bytes.{part, value, signed}
 use Rattle.program.specs.Program as Program
 use Rattle.program.specs.Program.{instructions, split, a_mode_of, b_mode_of, lawful, lowest_fault, cell_of, cells}
 use Rattle.program.proofs.Program.{length-split, Lawful, lawful-fields, all-lawful, twelve-each, lawful-cell}
-use Rattle.machine.specs.Load.{placed}
+use Rattle.machine.specs.Place.{placed}
 use Rattle.reference.specs.Types.{Modifier, AB, B, mode_number, default_88_to_94}
 use Rattle.reference.specs.Core.{normalize, written_from}
 use Rattle.reference.specs.Same.{opcode_of, modifier_of, mode_of, instruction_of, word_of, or_f, read_modifier, read_instruction}

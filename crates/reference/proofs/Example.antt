@@ -3,7 +3,7 @@
 use Rattle.std.specs.Prelude.{Some}
 use Prim.Native.Nat.{ℕ, ◌^◌, ◌-◌}
 use mathlib.Core.Path.{◌≡◌, refl}
-use mathlib.Core.List.{List, [], ◌∷◌, ◌++◌, map}
+use mathlib.Core.List.{List, [], ◌∷◌, ◌++◌}
 use native.Mathlib.Omega.{arith}
 use lib.ListN.{replicate}
 use Rattle.cell.specs.Cells.{sound_word}
@@ -17,57 +17,60 @@ use Rattle.machine.specs.Names.{register, numbered}
 use Rattle.machine.specs.Queue.{entries, pop, push, started}
 use Rattle.machine.specs.Soundness.{sound_header, sound_entry}
 use Rattle.machine.specs.Fresh.{fresh}
-use Rattle.machine.specs.Load.{loaded, load}
+use Rattle.machine.specs.Place.{placing, place}
+use Rattle.machine.specs.Start.{starting, start}
 use Rattle.machine.specs.Pointers.{operand}
 use Rattle.machine.specs.Execution.{effect_of}
 use Rattle.machine.specs.Step.{effect, core_after, step_written, counted, executed, step}
 use Rattle.machine.specs.Run.{run}
 use Rattle.machine.specs.Battles.{bytes, datum}
-use Rattle.account.specs.Calls.{Call, Load, Step, Run, outcome}
-use Rattle.account.specs.Lists.{One}
+use Rattle.account.specs.Calls.{Start, Step, Run}
+use Rattle.reference.specs.Compared.{Compared, Load, Single, comes_to}
 use Rattle.reference.specs.Refinement.{Domain, Agrees}
 use Rattle.reference.proofs.Refinement.{refinement}
 
 -- M 8, P 4
-abbrev start : Machine
-start = (fresh (of_size 8 4) (replicate 8 7) (replicate 64 9)).machine
+abbrev eight : Machine
+eight = (fresh (of_size 8 4) (replicate 8 7) (replicate 64 9)).machine
 
--- SPL $2,$0, DAT $0,$0, DJN.B $-1,$4 unnamed; a warrior too long; a name of 33 bytes, answered 5; three steps, a run to the end, and a step on the empty queue;
+-- SPL $2,$0, DAT $0,$0, DJN.B $-1,$4 unnamed; a warrior too long; a name of 33 bytes, answered 5; a start of that name, answered 5; three steps, a run to the end, and a step on the empty queue;
 -- NOP $0,$0, LDP.B $0,$0, a run that is answered 10 after a step, and a step that is answered 10
-abbrev calls : List Call
+abbrev calls : List Compared
 calls =
-    Load [] (bytes SPL unnamed mode.Direct 2 mode.Direct 0 ++ datum 0 0 ++ bytes DJN modifier.B mode.Direct (2 ^ 32 - 1) mode.Direct 4) 65535 0
-    ∷ Load (65 ∷ []) (replicate 108 0) 0 0
-    ∷ Load (replicate 33 65) (datum 0 0) 0 7
-    ∷ Step
-    ∷ Step
-    ∷ Step
-    ∷ Run (Some 20)
-    ∷ Step
-    ∷ Load (66 ∷ []) (bytes NOP unnamed mode.Direct 0 mode.Direct 0 ++ bytes LDP modifier.B mode.Direct 0 mode.Direct 0) 0 0
-    ∷ Run (Some 30)
-    ∷ Step
+    Load [] (bytes SPL unnamed mode.Direct 2 mode.Direct 0 ++ datum 0 0 ++ bytes DJN modifier.B mode.Direct (2 ^ 32 - 1) mode.Direct 4) 65535 0 0
+    ∷ Load (65 ∷ []) (replicate 108 0) 3 0 3
+    ∷ Load (replicate 33 65) (datum 0 0) 0 7 7
+    ∷ Single (Start (replicate 33 65) 0)
+    ∷ Single Step
+    ∷ Single Step
+    ∷ Single Step
+    ∷ Single (Run (Some 20))
+    ∷ Single Step
+    ∷ Load (66 ∷ []) (bytes NOP unnamed mode.Direct 0 mode.Direct 0 ++ bytes LDP modifier.B mode.Direct 0 mode.Direct 0) 16 0 0
+    ∷ Single (Run (Some 30))
+    ∷ Single Step
     ∷ []
 
 -- what our machine answers, and the steps of each call
-abbrev told : List Call → Machine → List ℕ
+abbrev told : List Compared → Machine → List ℕ
 told [] m = []
-told (x ∷ xs) m = (outcome x m).number ∷ (outcome x m).steps ∷ told xs (outcome x m).machine
+told (x ∷ xs) m = (comes_to x m).number ∷ (comes_to x m).steps ∷ told xs (comes_to x m).machine
 
-answers : told calls start ≡ 0 ∷ 0 ∷ 3 ∷ 0 ∷ 5 ∷ 0 ∷ 0 ∷ 1 ∷ 0 ∷ 1 ∷ 0 ∷ 1 ∷ 11 ∷ 1 ∷ 7 ∷ 0 ∷ 0 ∷ 0 ∷ 10 ∷ 1 ∷ 10 ∷ 0 ∷ []
-unfolding sound_word lawful lowest_fault cells register numbered entries pop push started sound_header sound_entry fresh loaded load operand effect_of effect core_after step_written counted executed step run
+answers : told calls eight ≡ 0 ∷ 0 ∷ 3 ∷ 0 ∷ 5 ∷ 0 ∷ 5 ∷ 0 ∷ 0 ∷ 1 ∷ 0 ∷ 1 ∷ 0 ∷ 1 ∷ 11 ∷ 1 ∷ 7 ∷ 0 ∷ 0 ∷ 0 ∷ 10 ∷ 1 ∷ 10 ∷ 0 ∷ []
+unfolding sound_word lawful lowest_fault cells register numbered entries pop push started sound_header sound_entry fresh placing place starting start operand effect_of effect core_after step_written counted executed step run
 answers = refl
 
-in-domain : Domain calls start
-unfolding sound_word lawful lowest_fault cells register numbered entries pop push started sound_header sound_entry fresh loaded load operand effect_of effect core_after step_written counted executed step run
+in-domain : Domain calls eight
+unfolding sound_word lawful lowest_fault cells register numbered entries pop push started sound_header sound_entry fresh placing place starting start operand effect_of effect core_after step_written counted executed step run
 in-domain = (
-  ((refl, omega arith), refl),
-  (((refl, omega arith), refl), (refl, ((tt, refl), ((tt, refl), ((tt, refl), ((tt, refl), ((tt, refl), (((refl, omega arith), refl), (refl, (refl, tt)))))))))),
+  ((refl, omega arith, refl), refl),
+  (((refl, omega arith, refl), refl), ((refl, refl), ((refl, refl), ((tt, refl), ((tt, refl), ((tt, refl), ((tt, refl), ((tt, refl),
+      (((refl, omega arith, refl), refl), ((refl, refl), ((refl, refl), tt))))))))))),
 )
 
 made : (fresh (of_size 8 4) (replicate 8 7) (replicate 64 9)).number ≡ 0
 unfolding fresh
 made = refl
 
-agrees : Agrees calls start (refinement (of_size 8 4) (replicate 8 7) (replicate 64 9) (record { read = refl; write = refl }) made).0
-agrees = (refinement (of_size 8 4) (replicate 8 7) (replicate 64 9) (record { read = refl; write = refl }) made).2 (map One calls) in-domain
+agrees : Agrees calls eight (refinement (of_size 8 4) (replicate 8 7) (replicate 64 9) (record { read = refl; write = refl }) made).0
+agrees = (refinement (of_size 8 4) (replicate 8 7) (replicate 64 9) (record { read = refl; write = refl }) made).2 calls in-domain

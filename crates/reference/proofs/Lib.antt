@@ -17,6 +17,7 @@ pub mod Loading
 pub mod Running
 pub mod Without
 pub mod Loops
+pub mod Compared
 pub mod Refinement
 mod Example
 mod Battles

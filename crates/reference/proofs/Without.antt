@@ -8,19 +8,22 @@ use native.Mathlib.Omega.{arith}
 use lib.Dec.{eqb}
 use borrow.Author.Tests.{eqb-true}
 use Rattle.machine.specs.State.{Machine}
-use Rattle.machine.specs.Load.{load}
+use Rattle.machine.specs.Place.{place}
+use Rattle.machine.specs.Start.{start}
 use Rattle.machine.specs.Step.{step, executes}
 use Rattle.machine.specs.Run.{Ceiling, plays, ceiling_of, run}
 use Rattle.machine.specs.Whole.{Unlimited}
 use Rattle.machine.proofs.Soundness.{header-sound}
-use Rattle.machine.proofs.Load.{load-refused}
+use Rattle.machine.proofs.Place.{place-refused}
+use Rattle.machine.proofs.Start.{start-refused}
 use Rattle.machine.proofs.Step.{step-refused}
 use Rattle.machine.proofs.Run.{run-plays, run-counts, RefusedInside, plays-refused}
 use Rattle.machine.proofs.SoundMachine.{SoundMachine}
-use Rattle.account.specs.Calls.{Call, Load, Step, Run, outcome}
+use Rattle.account.specs.Calls.{Place, Start, Step, Run}
+use Rattle.reference.specs.Compared.{Compared, Load, Single, comes_to}
 use Rattle.reference.specs.Core.{Core, Ok}
 use Rattle.reference.specs.Same.{Same}
-use Rattle.reference.specs.Refinement.{meets_plays, meets_before, answered, answer_of, without}
+use Rattle.reference.specs.Refinement.{meets_plays, meets_before, placed_alone, answered, answer_of, without}
 use Rattle.reference.proofs.Stepping.{Agreed}
 use Rattle.reference.proofs.Running.{run-agrees}
 
@@ -51,9 +54,9 @@ not_done n a = go (eqb n 0) refl
 -- of a run, the Rust's run to its last step
 run-without : (ceiling : Ceiling) (m : Machine) (c : Core) → SoundMachine m → Unlimited m.header.rules → Same m c → answered (run ceiling m).number ≡ false
     → meets_plays (run ceiling m).steps m ≡ false
-    → ((without (Run ceiling) m c).answer ≡ Ok) × Same (run ceiling m).machine (without (Run ceiling) m c).core
+    → ((without (Single (Run ceiling)) m c).answer ≡ Ok) × Same (run ceiling m).machine (without (Single (Run ceiling)) m c).core
 run-without ceiling m c s u same a f =
-    (agreed.answer ∙ ap (λ (n : ℕ). answer_of n (run to m).value) answer, subst (λ (n : Machine). Same n (without (Run ceiling) m c).core) leaves agreed.same)
+    (agreed.answer ∙ ap (λ (n : ℕ). answer_of n (run to m).value) answer, subst (λ (n : Machine). Same n (without (Single (Run ceiling)) m c).core) leaves agreed.same)
   where
     k : ℕ
     k = (run ceiling m).steps
@@ -79,12 +82,17 @@ run-without ceiling m c s u same a f =
     leaves : (run to m).machine ≡ (run ceiling m).machine
     leaves = ap (λ o. o.machine) is ∙ sym inside.2
 
-    agreed : Agreed (run to m) (without (Run ceiling) m c)
+    agreed : Agreed (run to m) (without (Single (Run ceiling)) m c)
     agreed = run-agrees to m c s u same (ap answered answer) (ap (λ (n : ℕ). meets_plays n m) turns ∙ f)
 
-pub without-agrees : (x : Call) (m : Machine) (c : Core) → SoundMachine m → Unlimited m.header.rules → Same m c → answered (outcome x m).number ≡ false → meets_before x m ≡ false
-    → ((without x m c).answer ≡ Ok) × Same (outcome x m).machine (without x m c).core
-without-agrees (Load name body origin place) m c s u same a f =
-    (refl, subst (λ (n : Machine). Same n c) (sym (load-refused m name body origin place (not_done (load m name body origin place).number a)).machine) same)
-without-agrees Step m c s u same a f = (refl, subst (λ (n : Machine). Same n c) (sym (step-refused m (not-executed (step m).number a)).machine) same)
-without-agrees (Run ceiling) m c s u same a f = run-without ceiling m c s u same a f
+pub without-agrees : (x : Compared) (m : Machine) (c : Core) → SoundMachine m → Unlimited m.header.rules → Same m c → answered (comes_to x m).number ≡ false
+    → meets_before x m ≡ false → placed_alone x m ≡ false
+    → ((without x m c).answer ≡ Ok) × Same (comes_to x m).machine (without x m c).core
+without-agrees (Load name body origin at start_at) m c s u same a f alone =
+    (refl, rw alone (subst (λ (n : Machine). Same n c) (sym (place-refused m name body at alone).machine) same))
+without-agrees (Single (Place name body at)) m c s u same a f alone =
+    (refl, subst (λ (n : Machine). Same n c) (sym (place-refused m name body at (not_done (place m name body at).number a)).machine) same)
+without-agrees (Single (Start name at)) m c s u same a f alone =
+    (refl, subst (λ (n : Machine). Same n c) (sym (start-refused m name at (not_done (start m name at).number a)).machine) same)
+without-agrees (Single Step) m c s u same a f alone = (refl, subst (λ (n : Machine). Same n c) (sym (step-refused m (not-executed (step m).number a)).machine) same)
+without-agrees (Single (Run ceiling)) m c s u same a f alone = run-without ceiling m c s u same a f

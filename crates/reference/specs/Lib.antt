@@ -6,4 +6,5 @@ pub mod Process
 pub mod Opcodes
 pub mod Core
 pub mod Same
+pub mod Compared
 pub mod Refinement

@@ -3,15 +3,28 @@ ghost use Rattle.std.specs.Prelude.{◌≤◌, length};
 
 use crate::input::Input;
 use cycle::{run, step};
+use machine::limits::NO_ORIGIN;
 use machine::{Header, Outcome};
 use metadata::Warrior;
-use warrior::load;
+use offset::{Absolute, Relative, add};
+use warrior::{place, start};
 
 #[derive(Clone, Copy)]
 pub(crate) enum Call<'a> {
     Load(Warrior<'a>),
     Step,
     Run(Option<u64>),
+}
+
+// A load of the Rust's is a place, and then a start at the origin, modulo the core's size.
+fn load(core: &mut [u64], queue: &mut [u64], h: Header, w: Warrior) -> Outcome {
+    let placed = place(core, queue, h, w.name, w.body, w.place);
+    if placed.answer.is_err() {
+        return placed;
+    }
+    let origin = if w.origin == NO_ORIGIN { 0 } else { w.origin as u32 };
+    let at = add(Absolute(w.place), Relative(origin), h.rules.size);
+    start(core, queue, placed.header, w.name, at.0)
 }
 
 impl<'a> Call<'a> {

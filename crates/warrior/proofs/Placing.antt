@@ -17,7 +17,7 @@ use Rattle.machine.specs.declared.Processes.{Processes}
 use Rattle.machine.specs.declared.Roster.{Roster}
 use Rattle.machine.specs.declared.Rules.{Rules}
 use Rattle.machine.specs.State.{Machine, under, with_core, with_queue, Verdict, accepted, refusal, first, settle}
-use Rattle.machine.specs.Names.{slot, is_new, registered}
+use Rattle.machine.specs.Names.{is_new, registered}
 use Rattle.machine.proofs.Checks.{passed, settle-by-cases}
 use Rattle.lent.specs.Parts.{machine_of, header_of, parts, named_of, register_if}
 use Rattle.lent.specs.Given.{Given, given, given_by}

@@ -16,11 +16,11 @@ use Rattle.laws.proofs.Tally.{count-le}
 use Rattle.program.specs.Program.{instructions, cells}
 use Rattle.program.proofs.Program.{cells-le}
 use Rattle.metadata.specs.Metadata.{called}
-use Rattle.machine.specs.State.{Machine, under, with_core, Outcome, done, Check, check, Verdict, accepted, refusal, first, settle}
+use Rattle.machine.specs.State.{Machine, under, Outcome, done, Check, check, Verdict, accepted, refusal, first, settle}
 use Rattle.machine.specs.Names.{slot, register, registered}
 use Rattle.machine.specs.Queue.{started}
 use Rattle.machine.specs.Soundness.{sound_header}
-use Rattle.machine.specs.Place.{placed, placing, place_rows, place}
+use Rattle.machine.specs.Place.{placing, place_rows, place}
 use Rattle.machine.specs.Start.{starting, start_rows, start}
 use Rattle.machine.proofs.Soundness.{tested}
 use Rattle.machine.proofs.Registering.{renamed}

@@ -3,9 +3,8 @@
 use mathlib.Core.Path.{◌≡◌, refl, sym, ap, ◌∙◌}
 use mathlib.Core.Bool.{true, not}
 use mathlib.Core.List.{List}
-use Prim.Native.Nat.{ℕ}
 use lib.Dec.{eqb}
-use Rattle.answer.specs.Numbers.{Told, gives}
+use Rattle.answer.specs.Numbers.{Told}
 use Rattle.laws.specs.Lists.{every}
 use Rattle.machine.specs.State.{Machine, Outcome, Check, Verdict, accepted, refusal, first, settle, verdict_told}
 use Rattle.machine.proofs.Checks.{without, others}

@@ -11,7 +11,8 @@ use Rattle.machine.specs.Execution.{effect_of}
 use Rattle.machine.specs.Step.{effect, core_after, step_written, counted, executed, step}
 use Rattle.machine.specs.Run.{run}
 use Rattle.machine.specs.Fresh.{fresh}
-use Rattle.machine.specs.Load.{loaded, load}
+use Rattle.machine.specs.Place.{placing, place}
+use Rattle.machine.specs.Start.{starting, start}
 use Rattle.match_format.specs.Format.{warrior, line, file}
 use Rattle.match_format.specs.Faults.{line_fault, lines_fault, fault}
 use Rattle.match_load.specs.Loading.{load_match}
@@ -28,7 +29,7 @@ abbrev alone : ℕ → ℕ → ℕ → List ℕ
 alone size opcode place = file size (warrior [] (opcode ∷ 4 ∷ 1 ∷ 1 ∷ replicate 8 0) 0 place ∷ [])
 
 unfoldable pub games : List Row
-unfolding sound_word lawful lowest_fault cells register numbered pop push started sound_header sound_entry fresh loaded load operand effect_of effect core_after step_written counted executed step run line file line_fault lines_fault fault load_match result decimal line_of printed
+unfolding sound_word lawful lowest_fault cells register numbered pop push started sound_header sound_entry fresh placing place starting start operand effect_of effect core_after step_written counted executed step run line file line_fault lines_fault fault load_match result decimal line_of printed
 games =
     -- M 8 and one unnamed DAT.F $0,$0: `11 1 0`, then `Warrior0 0`
     record {

@@ -13,7 +13,8 @@ use Rattle.machine.specs.Names.{register, numbered}
 use Rattle.machine.specs.Queue.{entries, pop, push, started}
 use Rattle.machine.specs.Soundness.{sound_header, sound_entry}
 use Rattle.machine.specs.Fresh.{fresh}
-use Rattle.machine.specs.Load.{loaded, load}
+use Rattle.machine.specs.Place.{placing, place}
+use Rattle.machine.specs.Start.{starting, start}
 use Rattle.machine.specs.Pointers.{operand}
 use Rattle.machine.specs.Execution.{effect_of}
 use Rattle.machine.specs.Step.{effect, core_after, step_written, counted, executed, step}
@@ -43,7 +44,7 @@ numbers_from i [] = []
 numbers_from i (b ∷ bs) = cond b (i ∷ numbers_from (suc i) bs) (numbers_from (suc i) bs)
 
 unfoldable pub seen : Rules → List ℕ → Seen
-unfolding sound_word lawful lowest_fault cells register numbered entries pop push started sound_header sound_entry fresh loaded load operand effect_of effect core_after step_written counted executed step Draft.step
+unfolding sound_word lawful lowest_fault cells register numbered entries pop push started sound_header sound_entry fresh placing place starting start operand effect_of effect core_after step_written counted executed step Draft.step
 seen rules warrior =
     let m = board_at 0 rules warrior in
     record {
