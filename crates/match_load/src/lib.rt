@@ -69,10 +69,8 @@ fn place_and_start(
         Err(error) => return (Err(error), 0),
     };
     let at = add(Absolute(w.place), Relative(origin_of(w.origin)), rules.size);
-    (
-        start_parts(queue, rules, names, processes, w.name, at.0),
-        writes,
-    )
+    let answer = start_parts(queue, rules, names, processes, w.name, at.0);
+    (answer, writes)
 }
 
 // Places and starts that many warriors of a file in a record whose header is sound, up to the first refused. Core and queue are lent one by one: of two `&mut` in a struct the check knows the lengths alone once the struct is gone.

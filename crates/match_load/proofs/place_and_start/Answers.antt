@@ -36,6 +36,6 @@ returns c =
     let gave = place-beside-queue a.core.now a.queue.now a.rules a.names.now a.processes.now a.w.name.now a.w.body.now a.w.place c.in-Ok.ensures in
     let some : a.rules.size ≡ 0 → ⊥ = (λ z. let f = (place-fits m a.w.name.now a.w.body.now a.w.place (sym (ap (λ (g : Given). g.told.number) gave))).below in omega (arith, f, z)) in
     let there = sum_is a.rules.size some c.add-at.ensures ∙ ap (ahead a.rules.size a.w.place) c.origin_of.ensures in
-    let started = start-beside-core p.new.core a.queue.now a.rules p.new.names p.new.processes a.w.name.now c.add-at.result.0 c.start_parts.ensures in
-    ap (λ (w : ℕ). given (told c.start_parts.result) w 0 (parts p.new.core c.start_parts.new.queue a.rules c.start_parts.new.names c.start_parts.new.processes)) (sym (add-zero c.in-Ok.writes))
+    let started = start-beside-core p.new.core a.queue.now a.rules p.new.names p.new.processes a.w.name.now c.add-at.result.0 c.start_parts-answer.ensures in
+    ap (λ (w : ℕ). given (told c.start_parts-answer.result) w 0 (parts p.new.core c.start_parts-answer.new.queue a.rules c.start_parts-answer.new.names c.start_parts-answer.new.processes)) (sym (add-zero c.in-Ok.writes))
     ∙ then-follows o (λ (k : Machine). start_tested k a.w.name.now at) gave refl (started ∙ ap (λ (k : ℕ). given_by (start_tested n a.w.name.now k)) there)
