@@ -84,7 +84,7 @@ pub record Account (m : Machine) (w : ℕ) (log : List Event) : Type 0 where
   pub idle : (n : List ℕ) → entries_of m n ≡ 0 → since_ending n log ≡ 0
   -- Names are those of accepted calls (01): the record holds a name exactly if an accepted call of placing or starting has it
   pub names : (n : List ℕ) → is_new m.header.names n ≡ eqb (tally (call_of n) log) 0
-  -- no other has entries (01)
+  -- no other has entries (01); the next sentence says more
   pub others : (n : List ℕ) → tally (call_of n) log ≡ 0 → entries_of m n ≡ 0
   -- A name never started has run nothing (02, A.5), and has no entries
   pub never_started : (n : List ℕ) → tally (start_of n) log ≡ 0 → (tally (instruction_of n) log ≡ 0) × (entries_of m n ≡ 0)

@@ -13,8 +13,8 @@ use Rattle.machine.specs.Run.{Ceiling, ceiling_of, run}
 
 -- a single call with its arguments
 pub data Call : Type 0 where
-  Place : (name body : List ℕ) (place : ℕ) → Call
-  Start : (name : List ℕ) (place : ℕ) → Call
+  Place : (name body : List ℕ) (at : ℕ) → Call
+  Start : (name : List ℕ) (at : ℕ) → Call
   Step : Call
   Run : (ceiling : Ceiling) → Call
 

@@ -22,7 +22,7 @@ use Rattle.reference.specs.Same.{Same}
 use Rattle.reference.specs.Compared.{Compared, Load, comes_to, loads_in, compared_of}
 use Rattle.reference.specs.Refinement.{answered, rust, matching, Agrees}
 use Rattle.reference.proofs.Compared.{same-compared}
-use Rattle.demands.specs.Beside.{returned_last}
+use Rattle.demands.specs.Groups.{returned_last}
 
 -- the Rust's answer that matches a call's, and the last of a list, Ok where there is none
 abbrev pub matched : Outcome → Answer
@@ -72,8 +72,3 @@ call-matched (One c) m = refl
 call-matched (LoadMatch f) m =
     match-by-cases f m (λ b l. last_matched (cond b (loads_in f 0 (warriors_in f) m) []) m ≡ matched l.outcome)
     (λ n v e. rw (not-answered f m n v e) refl) (λ e. loads-matched f 0 (warriors_in f) m)
-
--- and it leaves what the call leaves
-pub call-left : (x : Listed) (m : Machine) → left comes_to (compared_of x m) m ≡ (outcome_of x m).machine
-call-left x m =
-    sym (same-compared.machine (compared_of x m) m) ∙ ap (λ (cs : List Call). left outcome cs m) (same-compared.listed x m) ∙ (call-counts x m).0

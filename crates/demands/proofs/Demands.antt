@@ -35,7 +35,7 @@ use Rattle.match_file.specs.Reading.{contents_in, line_in}
 use Rattle.match_file.proofs.Values.{read-told}
 use Rattle.demands.specs.Promise.{Promise}
 use Rattle.demands.specs.Made.{JustMade, calls, last}
-use Rattle.demands.specs.Beside.{Beside, MadeBeside, compared, MadeAgrees}
+use Rattle.demands.specs.Groups.{Group, GroupsMade, compared, GroupsAgree}
 use Rattle.demands.specs.Demands.{Demand1, Demand2, Demand3, Facts}
 use Rattle.demands.proofs.Kept.{code-keeps}
 use Rattle.demands.proofs.Refusals.{fresh-refuses, exported-fresh-refuses, place-refuses, start-refuses, step-refuses, cell-refuses, cell-zero, default-refuses}
@@ -43,7 +43,7 @@ use Rattle.demands.proofs.Runs.{run-refuses}
 use Rattle.demands.proofs.Matches.{match-refuses}
 use Rattle.demands.proofs.Files.{file-refuses, file-zero, line-refuses, first-refuses, added-refuses}
 use Rattle.demands.proofs.Lists.{just-made, made-follows}
-use Rattle.demands.proofs.Beside.{made-agrees}
+use Rattle.demands.proofs.Groups.{groups-agree}
 
 pub demand-1 : Demand1
 demand-1 =
@@ -71,14 +71,14 @@ draft_made m g e t d =
     subst (λ (x : Given). executes x.told.number ≡ true → Drafted m x.machine) (sym e) (λ t. agreement m t d) t
 
 rust_made : (rules : Rules) (core queue : List ℕ) (m : Machine) → Unlimited rules → JustMade rules core queue m
-    → (c : Core) × (new rules.size ≡ some c) × ((made : List Beside) → MadeBeside made m → Domain (compared made m) m → MadeAgrees made m c)
+    → (c : Core) × (new rules.size ≡ some c) × ((made : List Group) → GroupsMade made m → Domain (compared made m) m → GroupsAgree made m c)
 rust_made rules core queue m u started =
     let s = just-made rules core queue m started in
     let r = refinement rules core queue u s.0 in (
       r.0,
       r.1,
       λ made h d.
-          made-agrees made m r.0 h
+          groups-agree made m r.0 h
           (subst (λ (n : Machine). Agrees (compared made m) n r.0) (sym s.1) (r.2 (compared made m) (subst (λ (n : Machine). Domain (compared made m) n) s.1 d))),
     )
 

@@ -1,6 +1,6 @@
 pub mod Answers
 pub mod Lists
-pub mod Beside
+pub mod Groups
 pub mod Refusals
 pub mod Runs
 pub mod Matches

@@ -40,7 +40,7 @@ use Rattle.round_trip.specs.RoundTrip.{FirstReads, AddedReads, WritesBack}
 use Rattle.demands.specs.Promise.{Promise, MatchPromise, FreshPromise, FreshNumber, CellPromise, CellNumber, DefaultPromise, FilePromise, FileNumbers, LinePromise, LineNumbers, FirstPromise, AddedPromise}
 use Rattle.demands.specs.Kept.{CodeKeeps}
 use Rattle.demands.specs.Made.{JustMade, Reply, Made, calls, last, written}
-use Rattle.demands.specs.Beside.{Beside, MadeBeside, compared, MadeAgrees}
+use Rattle.demands.specs.Groups.{Group, GroupsMade, compared, GroupsAgree}
 use Rattle.demands.specs.Refusals.{Refused, FreshRefused, CellRefused, CellZero, RunRefused, MatchRefused, DefaultRefused, FileRefused, FileZero, LineRefused, WriteRefused}
 
 -- DEMAND 1. A call refuses by 01's numbers, in 01's order, and leaves the machine as it was (a run: as its last step left it; a match loaded in one
@@ -92,7 +92,7 @@ pub record Demand2 : Type 2 where
   pub rust : Refinement
   pub rust_calls : SameCompared
   pub rust_made : (rules : Rules) (core queue : List ℕ) (m : Machine) → Unlimited rules → JustMade rules core queue m
-      → (c : Core) × (new rules.size ≡ some c) × ((made : List Beside) → MadeBeside made m → Domain (compared made m) m → MadeAgrees made m c)
+      → (c : Core) × (new rules.size ≡ some c) × ((made : List Group) → GroupsMade made m → Domain (compared made m) m → GroupsAgree made m c)
   -- Round trips: what was written reads back
   pub first_reads : FirstReads
   pub added_reads : AddedReads

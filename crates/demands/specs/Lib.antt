@@ -1,6 +1,6 @@
 pub mod Promise
 pub mod Kept
 pub mod Made
-pub mod Beside
+pub mod Groups
 pub mod Refusals
 pub mod Demands

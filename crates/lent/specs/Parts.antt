@@ -17,7 +17,7 @@ machine_of core queue header = record { core = core; queue = queue; header = hea
 abbrev pub names_of : ℕ → List ℕ → List ℕ → Roster
 names_of held bytes lengths = record { held = held; bytes = bytes; lengths = lengths }
 
--- what starting and a step change of a header beside its names
+-- what placing, starting and a step change of a header beside its names
 abbrev pub processes_of : Header → Processes
 processes_of h = record { ring = h.ring; steps = h.steps; counts = h.counts; threads = h.threads }
 

@@ -6,7 +6,7 @@ ghost use Rattle.lent.specs.Parts.{processes_of, header_of};
 
 use machine::{Header, Processes, Roster, Rules};
 
-// What starting and a step change of a header beside its names. No `From`, which would stand in `machine`, and that crate has no functions.
+// What placing, starting and a step change of a header beside its names. No `From`, which would stand in `machine`, and that crate has no functions.
 pub fn processes_of(h: Header) -> Processes
     ensures { result ≡ processes_of h }
 {

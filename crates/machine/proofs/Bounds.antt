@@ -19,13 +19,12 @@ use Rattle.machine.specs.Names.{slot, is_new, register, registered, numbered}
 use Rattle.machine.specs.Queue.{pop, push, started}
 use Rattle.machine.specs.Fresh.{blank}
 use Rattle.machine.specs.Place.{placing, place}
-use Rattle.machine.specs.Start.{starting, start}
+use Rattle.machine.specs.Start.{starting}
 use Rattle.machine.specs.Step.{popped, effect, counted, executed, step_checks, step}
 use Rattle.machine.specs.Run.{Ceiling, run}
 use Rattle.machine.proofs.Checks.{passed}
 use Rattle.machine.proofs.Registering.{naming}
-use Rattle.machine.proofs.Place.{place-by-cases}
-use Rattle.machine.proofs.Start.{Startable, startable, start-by-cases}
+use Rattle.machine.proofs.Start.{Startable}
 use Rattle.machine.proofs.Queueing.{queued-by-cases, any-places}
 use Rattle.machine.proofs.Step.{step-by-cases, counting}
 use Rattle.machine.proofs.Run.{run-keeps}
@@ -108,14 +107,8 @@ module _ (m : Machine) (given : List ℕ) (at : ℕ) (b : Bounded m.header) wher
   unfolding placing
   placing-bounded body = registered-bounded m.header (called given) b
 
-  pub place-bounded : (body : List ℕ) → Bounded (place m given body at).machine.header
-  place-bounded body = place-by-cases m given body at (λ o. Bounded o.machine.header) (λ n v e x. b) (λ e. placing-bounded body)
-
   pub starting-bounded : Startable m given at → Bounded (starting m (called given) at).machine.header
   unfolding starting
   starting-bounded l =
       started-bounded at (slot m.header.names (called given)) (naming m given m.core) (registered-below m.header (called given) b l.number)
       (registered-bounded m.header (called given) b)
-
-  pub start-bounded : Bounded (start m given at).machine.header
-  start-bounded = start-by-cases m given at (λ o. Bounded o.machine.header) (λ n v e x. b) (λ e. starting-bounded (startable m given at e))

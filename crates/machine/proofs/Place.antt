@@ -24,7 +24,7 @@ use Rattle.machine.proofs.Registering.{renamed, naming-sound}
 use Rattle.machine.proofs.Pointers.{SoundCore, word_set}
 
 -- the body in the core
-pub length-placed : (ws core : List ℕ) (p : ℕ) → length (placed core p ws) ≡ length core
+length-placed : (ws core : List ℕ) (p : ℕ) → length (placed core p ws) ≡ length core
 length-placed [] core p = refl
 length-placed (w ∷ ws) core p = length-placed ws (set core p w) (ahead (length core) p 1) ∙ length-set core p w
 
@@ -67,7 +67,7 @@ module _ (m : Machine) (given body : List ℕ) (at : ℕ) where
   abbrev pub core-placed : List ℕ
   core-placed = placed m.core at (cells m.header.rules.size body)
 
-  pub core-length : length core-placed ≡ length m.core
+  core-length : length core-placed ≡ length m.core
   core-length = length-placed (cells m.header.rules.size body) m.core at
 
   pub is-placed : Placed m body at (placing m (called given) body at)
@@ -90,11 +90,6 @@ module _ (m : Machine) (given body : List ℕ) (at : ℕ) where
   place-refused =
       place-by-cases (λ o. eqb o.number 0 ≡ false → Refused m o) (λ n v e x f. refused n v m (placing m (called given) body at))
       (λ e f. absurd (true≢false (sym (ap (λ (n : ℕ). eqb n 0) is-placed.number) ∙ f)))
-
-  pub place-accepted : (place m given body at).number ≡ 0 → Placeable m given body at × (place m given body at ≡ placing m (called given) body at)
-  place-accepted =
-      place-by-cases (λ o. o.number ≡ 0 → Placeable m given body at × (o ≡ placing m (called given) body at))
-      (λ n v e x z. absurd (true≢false (sym (rw z) ∙ x))) (λ e z. (placeable m given body at e, refl))
 
   -- the lengths of core and queue, the rules, and steps taken
   pub place-fixed : (length (place m given body at).machine.core ≡ length m.core)

@@ -71,11 +71,6 @@ module _ (m : Machine) (given : List ℕ) (at : ℕ) where
       start-by-cases (λ o. eqb o.number 0 ≡ false → Refused m o) (λ n v e x f. refused n v m (starting m (called given) at))
       (λ e f. absurd (true≢false (sym (ap (λ (n : ℕ). eqb n 0) is-started.number) ∙ f)))
 
-  pub start-accepted : (start m given at).number ≡ 0 → Startable m given at × (start m given at ≡ starting m (called given) at)
-  start-accepted =
-      start-by-cases (λ o. o.number ≡ 0 → Startable m given at × (o ≡ starting m (called given) at))
-      (λ n v e x z. absurd (true≢false (sym (rw z) ∙ x))) (λ e z. (startable m given at e, refl))
-
   -- the core, the length of the queue, the rules, and steps taken; and no writes
   pub start-fixed : ((start m given at).machine.core ≡ m.core)
       × (length (start m given at).machine.queue ≡ length m.queue)

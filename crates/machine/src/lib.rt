@@ -46,7 +46,7 @@ pub struct Header {
     pub threads: [u32; 16],
 }
 
-// What starting and a step change of a header beside its names: the ring, the steps taken, and each name's count and next thread number, side by side as the header has them.
+// What placing, starting and a step change of a header beside its names: the ring, the steps taken, and each name's count and next thread number, side by side as the header has them.
 #[derive(Clone, Copy)]
 pub struct Processes {
     pub ring: Ring,

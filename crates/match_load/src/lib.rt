@@ -42,8 +42,8 @@ fn stopped(answer: Answer, writes: u64, header: Header, warrior: usize) -> Loads
     }
 }
 
-// The origin, 65,535 for none, meaning 0.
-fn origin_of(origin: u16) -> u32
+// The origin of a match file's warrior, 65,535 for none, meaning 0.
+pub fn origin_of(origin: u16) -> u32
     ensures { result ≡ spec.origin_of origin }
 {
     if origin == NO_ORIGIN {

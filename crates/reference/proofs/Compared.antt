@@ -1,20 +1,20 @@
--- What is compared comes to what our calls for it come to, and a match is compared by the calls that it made.
+-- What is compared comes to what our calls for it come to, and a list of demand 3's is compared by the single calls as which it counts.
 -- Assumes nothing.
 use Prim.Native.Nat.{ℕ, zero, suc, ◌+◌}
-use mathlib.Core.Path.{◌≡◌, refl, ap, ap₂, ◌∙◌}
+use mathlib.Core.Path.{◌≡◌, refl, sym, ap, ap₂, ◌∙◌}
 use mathlib.Core.Bool.{Bool, true, false, cond}
-use mathlib.Core.List.{List, [], ◌∷◌, ◌++◌}
+use mathlib.Core.List.{List, [], ◌∷◌, ◌++◌, append_assoc}
 use native.Mathlib.Nat.{add-zero}
 use lib.Dec.{eqb}
-use Rattle.machine.specs.State.{Machine, Outcome, joined, passes}
+use Rattle.machine.specs.State.{Machine, Outcome, told_by, joined, passes}
 use Rattle.machine.specs.Place.{place}
 use Rattle.machine.specs.Start.{start}
 use Rattle.match_file.specs.Reading.{warriors_in, warrior_of}
 use Rattle.match_load.specs.Loading.{started_at, match_checks}
 use Rattle.account.specs.Calls.{Call, Place, Start, outcome, left, reported}
-use Rattle.account.specs.Lists.{Listed, One, LoadMatch, calls_in, made, singles}
-use Rattle.account.proofs.Spread.{CountsAs, left-append, reported-append}
-use Rattle.reference.specs.Compared.{Compared, Load, Single, calls_of, comes_to, calls_for, loads_in, compared_of, SameCompared}
+use Rattle.account.specs.Lists.{Listed, One, LoadMatch, outcome_of, calls_in, made, singles, spread}
+use Rattle.account.proofs.Spread.{CountsAs, left-append, reported-append, call-counts}
+use Rattle.reference.specs.Compared.{Compared, Load, Single, calls_of, comes_to, calls_for, loads_in, compared_of, compared_list, last_answer, SameCompared}
 
 -- one of the list
 pub counts : (x : Compared) (m : Machine) → CountsAs (calls_of x m) m (comes_to x m)
@@ -79,5 +79,40 @@ same-listed (LoadMatch f) m = go (passes (match_checks m f))
     go true = same-loads f 0 (warriors_in f) m
     go false = refl
 
+-- one list after another
+calls-append : (xs ys : List Compared) (m : Machine) → calls_for (xs ++ ys) m ≡ calls_for xs m ++ calls_for ys (left comes_to xs m)
+calls-append [] ys m = refl
+calls-append (x ∷ xs) ys m =
+    ap (λ (cs : List Call). calls_of x m ++ cs) (calls-append xs ys (comes_to x m).machine)
+    ∙ sym (append_assoc (calls_of x m) (calls_for xs (comes_to x m).machine) (calls_for ys (left comes_to xs (comes_to x m).machine)))
+
+-- what a call is compared with leaves what the call leaves
+pub call-left : (x : Listed) (m : Machine) → left comes_to (compared_of x m) m ≡ (outcome_of x m).machine
+call-left x m = sym (same-machine (compared_of x m) m) ∙ ap (λ (cs : List Call). left outcome cs m) (same-listed x m) ∙ (call-counts x m).0
+
+same-lists : (xs : List Listed) (m : Machine) → calls_for (compared_list xs m) m ≡ spread xs m
+same-lists [] m = refl
+same-lists (x ∷ xs) m =
+    let n = (outcome_of x m).machine in
+    calls-append (compared_of x m) (compared_list xs n) m
+    ∙ ap₂ (λ (cs : List Call) (k : Machine). cs ++ calls_for (compared_list xs n) k) (same-listed x m) (call-left x m)
+    ∙ ap (λ (cs : List Call). singles x m ++ cs) (same-lists xs n)
+
+-- of a load what is answered last is what it comes to
+same-answer : (x : Compared) (m : Machine) → last_answer (calls_of x m) m ≡ told_by (comes_to x m)
+same-answer (Single c) m = refl
+same-answer (Load name body origin at start_at) m = go (eqb p.number 0) (eqb s.number 0)
+  where
+    p : Outcome
+    p = place m name body at
+
+    s : Outcome
+    s = start p.machine name start_at
+
+    go : (a b : Bool) → last_answer (Place name body at ∷ cond a (Start name start_at ∷ cond b [] []) []) m ≡ told_by (cond a (joined p s) p)
+    go true true = refl
+    go true false = refl
+    go false b = refl
+
 pub same-compared : SameCompared
-same-compared = record { machine = same-machine; writes = same-writes; listed = same-listed }
+same-compared = record { machine = same-machine; writes = same-writes; answer = same-answer; listed = same-lists }

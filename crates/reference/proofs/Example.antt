@@ -1,4 +1,4 @@
--- The domain has battles in it: one of eleven calls, refused ones among them, by computation, and what the theorem says of it.
+-- The domain has battles in it: one of twelve calls, refused ones among them, by computation, and what the theorem says of it.
 -- Assumes nothing.
 use Rattle.std.specs.Prelude.{Some}
 use Prim.Native.Nat.{ℕ, ◌^◌, ◌-◌}
@@ -25,7 +25,11 @@ use Rattle.machine.specs.Step.{effect, core_after, step_written, counted, execut
 use Rattle.machine.specs.Run.{run}
 use Rattle.machine.specs.Battles.{bytes, datum}
 use Rattle.account.specs.Calls.{Start, Step, Run}
-use Rattle.reference.specs.Compared.{Compared, Load, Single, comes_to}
+use Rattle.match_load.specs.Loading.{load_match}
+use Rattle.account.specs.Lists.{LoadMatch}
+use Rattle.match_format.specs.Format.{warrior, line, file}
+use Rattle.match_format.specs.Faults.{line_fault, lines_fault, fault}
+use Rattle.reference.specs.Compared.{Compared, Load, Single, comes_to, compared_list}
 use Rattle.reference.specs.Refinement.{Domain, Agrees}
 use Rattle.reference.proofs.Refinement.{refinement}
 
@@ -97,3 +101,16 @@ made = refl
 
 agrees : Agrees calls eight (refinement (of_size 8 4) (replicate 8 7) (replicate 64 9) (record { read = refl; write = refl }) made).0
 agrees = (refinement (of_size 8 4) (replicate 8 7) (replicate 64 9) (record { read = refl; write = refl }) made).2 calls in-domain
+
+-- a match of two warriors, both placed at 0, the second started at its origin, 3; and one of which the second is too long
+abbrev matches : List Compared
+matches =
+    compared_list
+    (LoadMatch (file 8 (warrior (65 ∷ []) (datum 0 0) 65535 0 ∷ warrior (66 ∷ []) (bytes NOP unnamed mode.Direct 0 mode.Direct 0) 3 0 ∷ []))
+    ∷ LoadMatch (file 8 (warrior (67 ∷ []) (datum 0 0) 0 0 ∷ warrior (68 ∷ []) (replicate 108 0) 0 0 ∷ []))
+    ∷ [])
+    eight
+
+matches-in-domain : (told matches eight ≡ 0 ∷ 0 ∷ 0 ∷ 0 ∷ 0 ∷ 0 ∷ 3 ∷ 0 ∷ []) × Domain matches eight
+unfolding lawful lowest_fault cells register numbered push started sound_header fresh placing place starting start line file line_fault lines_fault fault load_match
+matches-in-domain = (refl, (((refl, omega arith, refl), refl), (((refl, omega arith, refl), refl), (((refl, omega arith, refl), refl), (((refl, omega arith, refl), refl), tt)))))

@@ -23,7 +23,7 @@ use Rattle.account.specs.Calls.{Place, Start, Step, Run}
 use Rattle.reference.specs.Compared.{Compared, Load, Single, comes_to}
 use Rattle.reference.specs.Core.{Core, Ok}
 use Rattle.reference.specs.Same.{Same}
-use Rattle.reference.specs.Refinement.{meets_plays, meets_before, placed_alone, answered, answer_of, without}
+use Rattle.reference.specs.Refinement.{meets_plays, meets_before, body_stays, answered, answer_of, without}
 use Rattle.reference.proofs.Stepping.{Agreed}
 use Rattle.reference.proofs.Running.{run-agrees}
 
@@ -86,7 +86,7 @@ run-without ceiling m c s u same a f =
     agreed = run-agrees to m c s u same (ap answered answer) (ap (λ (n : ℕ). meets_plays n m) turns ∙ f)
 
 pub without-agrees : (x : Compared) (m : Machine) (c : Core) → SoundMachine m → Unlimited m.header.rules → Same m c → answered (comes_to x m).number ≡ false
-    → meets_before x m ≡ false → placed_alone x m ≡ false
+    → meets_before x m ≡ false → body_stays x m ≡ false
     → ((without x m c).answer ≡ Ok) × Same (comes_to x m).machine (without x m c).core
 without-agrees (Load name body origin at start_at) m c s u same a f alone =
     (refl, rw alone (subst (λ (n : Machine). Same n c) (sym (place-refused m name body at alone).machine) same))

@@ -21,7 +21,8 @@ use Rattle.reference.specs.Core.{Core, Answer, Ok, WarriorTooLong, Err, Panic, R
 use Rattle.reference.specs.Same.{Same, warrior_of}
 use Rattle.reference.specs.Compared.{Compared, Load, Single, comes_to}
 
--- of a load place 0, an origin of 16 bits, and the start at the origin, modulo M; a place or a start alone is no call of the Rust's
+-- of a load place 0, an origin of 16 bits, and the start at the origin, modulo M. A place or a start alone is no call of the Rust's, nor are the two with
+-- another call between them
 abbrev pub Given : Compared → Machine → Type 0
 Given (Load name body origin at start_at) m = (at ≡ 0) × (origin ≤ 65535) × (start_at ≡ ahead m.header.rules.size at (origin_of origin))
 Given (Single (Place name body at)) m = ⊥
@@ -57,15 +58,16 @@ meets_before (Single (Start name at)) m = false
 meets_before (Single Step) m = false
 meets_before (Single (Run ceiling)) m = meets_plays (run ceiling m).steps m
 
--- a load that is answered otherwise by its start: its body stays placed, which the Rust has no call for
-abbrev pub placed_alone : Compared → Machine → Bool
-placed_alone (Load name body origin at start_at) m = eqb (place m name body at).number 0
-placed_alone (Single c) m = false
+-- the body of a load whose place is accepted stays where its start is refused, which the Rust has no call for. A list is compared up to there: its part
+-- before that load is a list, too
+abbrev pub body_stays : Compared → Machine → Bool
+body_stays (Load name body origin at start_at) m = eqb (place m name body at).number 0
+body_stays (Single c) m = false
 
--- what is compared is in the domain: where it is answered so, and where it is not
+-- what is compared is in the domain: true, its number is not among those above; false, it is
 abbrev pub InDomain : Bool → Compared → Machine → Type 0
 InDomain true x m = Given x m × (meets x m ≡ false)
-InDomain false x m = (meets_before x m ≡ false) × (placed_alone x m ≡ false)
+InDomain false x m = (meets_before x m ≡ false) × (body_stays x m ≡ false)
 
 -- all of the list is in the domain
 abbrev pub Domain : List Compared → Machine → Type 0

@@ -3,8 +3,8 @@ ghost use Rattle.std.specs.Prelude.{◌≤◌, length};
 
 use crate::input::Input;
 use cycle::{run, step};
-use machine::limits::NO_ORIGIN;
 use machine::{Header, Outcome};
+use match_load::origin_of;
 use metadata::Warrior;
 use offset::{Absolute, Relative, add};
 use warrior::{place, start};
@@ -22,12 +22,8 @@ fn load(core: &mut [u64], queue: &mut [u64], h: Header, w: Warrior) -> Outcome {
     if placed.answer.is_err() {
         return placed;
     }
-    let origin = if w.origin == NO_ORIGIN {
-        0
-    } else {
-        w.origin as u32
-    };
-    let at = add(Absolute(w.place), Relative(origin), h.rules.size);
+    let origin = Relative(origin_of(w.origin));
+    let at = add(Absolute(w.place), origin, h.rules.size);
     start(core, queue, placed.header, w.name, at.0)
 }
 

@@ -32,7 +32,7 @@ pub struct Ran {
     pub steps: u64,
 }
 
-// Steps while steps taken are below the ceiling, up to the first answer not 0; an unsound header is refused. The parts are lent one by one, as to `warrior::load_parts`.
+// Steps while steps taken are below the ceiling, up to the first answer not 0; an unsound header is refused. The parts are lent one by one, as to `warrior::place_parts`.
 pub fn run_parts(
     core: &mut [u64],
     queue: &mut [u64],

@@ -18,7 +18,7 @@ use metadata::called;
 use names::{find, register};
 use offset::Absolute;
 use program::len;
-use queue::start as start_at;
+use queue::start as start_process;
 use sim::refuse;
 use soundness::sound_header;
 use warrior_checks::{place_refusal, start_refusal};
@@ -73,7 +73,7 @@ pub fn start_parts(
 {
     start_refusal(rules, names, processes, name, place)?;
     let i = slot_of(names, processes, called(name));
-    start_at(queue, processes, Absolute(place), i);
+    start_process(queue, processes, Absolute(place), i);
     Ok(())
 }
 

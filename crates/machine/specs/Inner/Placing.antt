@@ -14,7 +14,7 @@ use Rattle.machine.specs.Fresh.{fresh}
 use Rattle.machine.specs.Place.{placing, place}
 use Rattle.machine.specs.Start.{starting, start}
 use Rattle.machine.specs.Battles.{Row, bytes, datum, cell}
-use Rattle.machine.specs.Inner.Processes.{eight, A, B, call, crowded, dat, with_threads, told, leaves}
+use Rattle.machine.specs.Inner.Processes.{eight, A, B, call, crowded, dat, with_counts, with_threads, told, leaves}
 
 -- an instruction with no such opcode
 abbrev bad : List ℕ
@@ -57,14 +57,22 @@ placings =
       got = let m = (place (start (eight 1) [] 0).machine (called []) (datum 0 0) 4).machine in m.header.names.held ∷ told (entries m);
       wanted = 1 ∷ 0 ∷ 0 ∷ 0 ∷ [];
     }
-    -- place under a name that holds P: 0; start: 6. A name only placed under starts with P 1
+    -- a refused call registers nothing
+    ∷ record {
+      got = leaves_core (place (eight 1) A bad 0) ++ leaves_core (start (eight 1) A 8);
+      wanted = 4 ∷ 0 ∷ 0 ∷ 0 ∷ 0 ∷ (replicate 8 fresh_cell ++ (5 ∷ 0 ∷ 0 ∷ 0 ∷ 0 ∷ replicate 8 fresh_cell));
+    }
+    -- count and next thread number of a name only placed under are 0, whatever stood there
+    ∷ record { got = leaves (place (with_threads (replicate 16 7) (with_counts (replicate 16 9) (eight 1))) A [] 0); wanted = 0 ∷ 0 ∷ 0 ∷ 9 ∷ 0 ∷ 7 ∷ [] }
+    -- place under a name that holds P, and under one with the last thread number: 0; start: 6. A name only placed under starts with P 1
     ∷ record {
       got =
           (place (dat A (eight 1)).machine A (datum 0 0) 3).number
+          ∷ (place (with_threads (replicate 16 4294967295) (dat A (eight 1)).machine) A (datum 0 0) 3).number
           ∷ (start (dat A (eight 1)).machine A 3).number
           ∷ (start (place (eight 1) A (datum 0 0) 3).machine A 3).number
           ∷ [];
-      wanted = 0 ∷ 6 ∷ 0 ∷ [];
+      wanted = 0 ∷ 0 ∷ 6 ∷ 0 ∷ [];
     }
     -- order of place: 9, 3, 4 with the lowest index, 5 of a name and of a place, 6 of a seventeenth name alone
     ∷ record {

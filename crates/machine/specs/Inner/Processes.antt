@@ -49,7 +49,7 @@ with_P processes m =
     let h = m.header in
     under (record { rules = of_size h.rules.size processes; ring = h.ring; steps = h.steps; names = h.names; counts = h.counts; threads = h.threads }) m
 
-abbrev with_counts : List ℕ → Machine → Machine
+abbrev pub with_counts : List ℕ → Machine → Machine
 with_counts counts m =
     let h = m.header in
     under (record { rules = h.rules; ring = h.ring; steps = h.steps; names = h.names; counts = counts; threads = h.threads }) m

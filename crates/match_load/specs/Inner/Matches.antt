@@ -58,6 +58,11 @@ matches =
     ∷ record { got = told (load_match (eight 4) (pair 8 (nop ++ bad))); wanted = 4 ∷ 1 ∷ 1 ∷ 1 ∷ 1 ∷ 1 ∷ [] }
     -- warrior 0 is refused: none stands
     ∷ record { got = told (load_match (eight 4) (file 8 (warrior [] bad 0 0 ∷ warrior [] nop 0 4 ∷ []))); wanted = 4 ∷ 0 ∷ 0 ∷ 0 ∷ 0 ∷ 0 ∷ [] }
+    -- three warriors, P 1, the second of the first's name: it stops there, before the third is placed
+    ∷ record {
+      got = told (load_match (eight 1) (file 8 (warrior (65 ∷ []) nop 0 0 ∷ warrior (65 ∷ []) nop 0 2 ∷ warrior (66 ∷ []) nop 0 4 ∷ [])));
+      wanted = 6 ∷ 0 ∷ 1 ∷ 2 ∷ 1 ∷ 1 ∷ [];
+    }
     -- warrior 1 has the name of warrior 0, which holds P: its start is refused, and both bodies lie there
     ∷ record { got = told (load_match (eight 1) (file 8 (warrior [] nop 0 0 ∷ warrior [] nop 0 4 ∷ []))); wanted = 6 ∷ 0 ∷ 1 ∷ 2 ∷ 1 ∷ 1 ∷ [] }
     ∷ record { got = (load_match (eight 1) (file 8 (warrior [] nop 0 0 ∷ warrior [] nop 0 4 ∷ []))).outcome.machine.core; wanted = word NOP F Direct 0 Direct 0 ∷ (replicate 3 fresh_cell ++ (word NOP F Direct 0 Direct 0 ∷ replicate 3 fresh_cell)) }
