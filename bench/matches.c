@@ -45,20 +45,21 @@ static bool one_call(record *r) {
     return loads.report.number == SUMACADZE_DONE;
 }
 
-static bool enter(record *r, const sumacadze_line_t *l) {
+static bool place_and_start(record *r, const sumacadze_line_t *l) {
     const uint8_t *name = file + l->name_start, *body = file + l->body_start;
+    uint32_t origin = l->origin == SUMACADZE_NO_ORIGIN ? 0 : l->origin;
     sumacadze_header_t *h = &r->header;
     sumacadze_report_t placed =
         sumacadze_place(r->core, M, r->queue, SLOTS, h, name, l->name_length, body, l->body_length, l->place);
     sumacadze_report_t started =
-        sumacadze_start(r->core, M, r->queue, SLOTS, h, name, l->name_length, (l->place + l->origin) % M);
+        sumacadze_start(r->core, M, r->queue, SLOTS, h, name, l->name_length, (l->place + origin) % M);
     return placed.number == SUMACADZE_DONE && started.number == SUMACADZE_DONE;
 }
 
 static bool known_lines(record *r) {
     bool all = true;
     for (int k = 0; k < WARRIORS; k++)
-        all &= enter(r, &known[k]);
+        all &= place_and_start(r, &known[k]);
     return all;
 }
 
@@ -67,7 +68,7 @@ static bool read_lines(record *r) {
     bool all = contents.number == SUMACADZE_DONE;
     for (size_t k = 0; k < contents.warriors; k++) {
         sumacadze_line_t l = sumacadze_read_line(file, sizeof file, k);
-        all &= enter(r, &l);
+        all &= place_and_start(r, &l);
     }
     return all;
 }

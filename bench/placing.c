@@ -51,7 +51,7 @@ static sumacadze_report_t place(sumacadze_header_t *h, size_t length) {
     return sumacadze_place(core, M, queue, SLOTS, h, NAME, sizeof NAME, body, length, 0);
 }
 
-static sumacadze_report_t begin(sumacadze_header_t *h) { return sumacadze_start(core, M, queue, SLOTS, h, NAME, sizeof NAME, 0); }
+static sumacadze_report_t start(sumacadze_header_t *h) { return sumacadze_start(core, M, queue, SLOTS, h, NAME, sizeof NAME, 0); }
 #endif
 
 static sumacadze_report_t place_body(sumacadze_header_t *h) { return place(h, sizeof body); }
@@ -65,7 +65,7 @@ static const struct {
     {"body", place_body},
     {"empty", place_empty},
 #ifndef ONE_CALL
-    {"start", begin},
+    {"start", start},
 #endif
     {"nothing", nothing},
 };

@@ -9,8 +9,8 @@
  * - a memory or header that a call may write overlaps nothing else that the call is given;
  * - nothing else uses them while the call runs.
  * What the bytes say is not the caller's duty: memories, headers, names, bodies and files may hold anything. A refusal
- * changes nothing, except that of a match loaded in one call what was placed and started before the refusal stands: the
- * warriors before the refused one, and its own body where only its start was refused.
+ * changes nothing, except that of a run the steps before it stand, and of a match loaded in one call what was placed and
+ * started before it: the warriors before the refused one, and its own body where only its start was refused.
  */
 #ifndef SUMACADZE_H
 #define SUMACADZE_H
@@ -125,13 +125,15 @@ sumacadze_fresh_t sumacadze_fresh(sumacadze_rules_t rules, uint64_t *core, size_
 /* Places a body under a name: its cells are written from the place on, going on at cell 0 past the end, and a name that is
  * not held yet is registered, by an empty body too. Nothing is started: a name that is never started runs nothing. Warriors
  * of one name share it; an empty name is Warrior0. A name that holds P entries may be placed under. The writes are the
- * instructions of the body. */
+ * instructions of the body. The refusals, in the order tested: 9, 3, 4, 5, 6 (a seventeenth name). */
 sumacadze_report_t sumacadze_place(uint64_t *core, size_t core_length, const uint64_t *queue, size_t queue_length,
                                    sumacadze_header_t *header, const uint8_t *name, size_t name_length,
                                    const uint8_t *body, size_t body_length, uint32_t place);
 
 /* Starts a process under a name at any place below the core's size, whatever stands there: an entry with the name's next
- * thread number is queued behind the others. A name that is not held yet is registered; no name holds more than P entries. */
+ * thread number is queued behind the others. A name that is not held yet is registered; an empty name is Warrior0. No cell
+ * is written: the writes are 0. The refusals, in the order tested: 9, 5, 6 (SUMACADZE_NO_ROOM: a seventeenth name, or one that
+ * holds P entries), 8 (a name whose thread numbers are used up). */
 sumacadze_report_t sumacadze_start(const uint64_t *core, size_t core_length, uint64_t *queue, size_t queue_length,
                                    sumacadze_header_t *header, const uint8_t *name, size_t name_length, uint32_t place);
 
@@ -157,7 +159,9 @@ sumacadze_reading_t sumacadze_get(const uint64_t *core, size_t core_length, cons
 /* How many warriors a match file has, and its core size. */
 sumacadze_contents_t sumacadze_read(const uint8_t *file, size_t file_length);
 
-/* Which bytes of a match file are a warrior's name and body, and its origin and place; warriors count from 0. */
+/* Which bytes of a match file are a warrior's name and body, and its origin and place; warriors count from 0. A program that
+ * places and starts a file's warriors itself starts each at (place + origin) mod the core's size, an origin of
+ * SUMACADZE_NO_ORIGIN being 0. */
 sumacadze_line_t sumacadze_read_line(const uint8_t *file, size_t file_length, size_t warrior);
 
 #ifdef __cplusplus

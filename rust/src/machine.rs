@@ -202,7 +202,23 @@ impl<'a> Machine<'a> {
 
     /// Places a body under a name, from a place on, going on at cell 0 past the end. A name that is not held yet is registered,
     /// by an empty body too; an empty name is Warrior0. Nothing is started: a name that is never started runs nothing. A name
-    /// that holds P entries may be placed under. The writes are the instructions of the body.
+    /// that holds P entries may be placed under. The writes are the instructions of the body. The refusals, in the order
+    /// tested: `UnsoundRecord`, `WarriorTooLong`, `InvalidCode`, `InvalidNameOrPlace`, `NoRoom` (a seventeenth name).
+    ///
+    /// ```
+    /// use sumacadze::{Answer, Machine, Rules};
+    ///
+    /// // MOV $0, $1, with the default modifier.
+    /// const IMP: [u8; 12] = [1, 255, 1, 1, 0, 0, 0, 0, 1, 0, 0, 0];
+    ///
+    /// let (mut core, mut queue) = (vec![0; 40], vec![0; 64]);
+    /// let mut machine = Machine::fresh(Rules::of_size(40, 4), &mut core, &mut queue).unwrap();
+    /// assert_eq!(machine.place(b"Imp", &IMP, 20).answer, Answer::Done);
+    /// assert_eq!(machine.names().next(), Some((&b"Imp"[..], 0)));
+    /// assert_eq!(machine.start(b"Imp", 20).answer, Answer::Done);
+    /// assert_eq!(machine.run(Some(12)).steps, 12);
+    /// assert_eq!(machine.names().next(), Some((&b"Imp"[..], 1)));
+    /// ```
     pub fn place(&mut self, name: &[u8], body: &[u8], place: u32) -> Report {
         // SAFETY: the memories and the header are exclusive here, and no slice is null.
         report(unsafe {
@@ -222,7 +238,9 @@ impl<'a> Machine<'a> {
     }
 
     /// Starts a process under a name at any place of the core, whatever stands there. A name that is not held yet is
-    /// registered; no name holds more than P entries.
+    /// registered; an empty name is Warrior0. No cell is written: the writes are 0. The refusals, in the order tested:
+    /// `UnsoundRecord`, `InvalidNameOrPlace`, `NoRoom` (a seventeenth name, or one that holds P entries), `NumbersExhausted`
+    /// (a name whose thread numbers are used up).
     pub fn start(&mut self, name: &[u8], place: u32) -> Report {
         // SAFETY: as for place.
         report(unsafe {
@@ -240,8 +258,8 @@ impl<'a> Machine<'a> {
     }
 
     /// Loads every warrior of a match file in file order, up to the first refused: each is placed, and then started at its
-    /// place plus its origin, modulo the core's size. What was placed and started before a refusal stands, with its writes;
-    /// so does the body of the refused warrior where it was placed and could not be started.
+    /// place plus its origin, modulo the core's size, before the next is placed. What was placed and started before a refusal
+    /// stands, with its writes; so does the body of the refused warrior where it was placed and could not be started.
     pub fn load_match(&mut self, file: &[u8]) -> Loads {
         // SAFETY: the memories are exclusive here, and no slice is null.
         let l = unsafe {

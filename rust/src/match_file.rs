@@ -19,6 +19,8 @@ pub struct Match<'a> {
 pub struct Warrior<'a> {
     pub name: &'a [u8],
     pub body: &'a [u8],
+    /// A program that places and starts the warrior itself starts it at (place + origin) mod the core's size, an origin of
+    /// [`NO_ORIGIN`] being 0.
     pub origin: u16,
     pub place: u32,
 }

@@ -31,7 +31,7 @@ static sumacadze_loads_t in_one_call(record *r, const uint8_t *file, size_t leng
 }
 
 // Places the warrior of a line and, where that is done, starts it; the writes are those of both.
-static sumacadze_report_t enter_line(record *r, const uint8_t *file, size_t length, size_t warrior) {
+static sumacadze_report_t place_and_start(record *r, const uint8_t *file, size_t length, size_t warrior) {
     sumacadze_line_t line = sumacadze_read_line(file, length, warrior);
     const uint8_t *name = file + line.name_start, *body = file + line.body_start;
     sumacadze_report_t placed = sumacadze_place(r->core, r->core_length, r->queue, r->queue_length, &r->header, name,
@@ -63,7 +63,7 @@ static sumacadze_loads_t one_by_one(record *r, const uint8_t *file, size_t lengt
     sumacadze_loads_t loads = {.report = before_warriors(r, contents)};
     for (size_t i = 0; i < contents.warriors && !loads.report.number; i++) {
         uint64_t writes = loads.report.writes;
-        loads.report = enter_line(r, file, length, i);
+        loads.report = place_and_start(r, file, length, i);
         loads.report.writes += writes;
         if (loads.report.number)
             loads.warrior = i;

@@ -8,7 +8,7 @@ from placing import place, start
 NO_ORIGIN = 65535
 
 
-def first_instruction(origin, at, size):
+def start_place(origin, at, size):
     """Where a warrior placed there is started."""
     return (at + (0 if origin == NO_ORIGIN else origin)) % size
 
@@ -24,7 +24,7 @@ def load_match(record, file):
             raise Refused(1, 0)
         for warrior, (name, body, origin, at) in enumerate(warriors):
             writes += place(record, name, body, at)
-            start(record, name, first_instruction(origin, at, size))
+            start(record, name, start_place(origin, at, size))
     except Refused as refused:
         return *refused.args, warrior, writes, 0
     return 0, 0, 0, writes, 0

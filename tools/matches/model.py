@@ -85,7 +85,8 @@ class Machine:
         for i, cell in enumerate(cells):
             self.core[(place + i) % self.size] = cell
         name = name.decode() or "Warrior0"
-        self.counts.setdefault(name, 0), self.threads.setdefault(name, 0)
+        self.counts.setdefault(name, 0)
+        self.threads.setdefault(name, 0)
 
     def start(self, name, place):
         """Starts a process under a name at a place that is below the size."""
@@ -96,7 +97,7 @@ class Machine:
         self.counts[name], self.threads[name] = self.counts.get(name, 0) + 1, thread + 1
         self.queue.append((place, thread, name))
 
-    def enter(self, name, body, origin, place):
+    def place_and_start(self, name, body, origin, place):
         """A warrior of a file: placed, then started at its origin."""
         self.place(name, body, place)
         self.start(name, (place + (0 if origin == 65535 else origin)) % self.size)
@@ -117,6 +118,28 @@ class Machine:
             through[mode % 2] = (through[mode % 2] + 1) % self.size
         return pointer, copy, int(mode >= 4)
 
+    def store(self, opcode, modifier, a, live, pairs):
+        """Changes the target; whether a field of it was stored."""
+        if opcode == 1 and modifier == 6:
+            live[:2] = a[:2]
+        stored = False
+        if opcode in (1, 2, 3, 4, 5, 6, 10):
+            for x, y, to in pairs:
+                if opcode in (5, 6) and y == 0:
+                    continue
+                value = {1: x, 2: x + y, 3: y - x, 4: x * y, 5: x // (y or 1), 6: x % (y or 1), 10: y - 1}[opcode]
+                live[3][to] = value % self.size
+                stored = True
+        return stored
+
+    def following(self, opcode, pc, a_pointer, pairs, equal):
+        """Where a process that does not end goes on."""
+        jumps = {7: True, 8: any(y == 0 for _, y, _ in pairs), 9: any(y for _, y, _ in pairs), 10: any((y - 1) % self.size for _, y, _ in pairs)}
+        skips = {11: equal, 12: equal, 13: not equal, 14: all(x < y for x, y, _ in pairs)}
+        if jumps.get(opcode):
+            return a_pointer
+        return (pc + (2 if skips.get(opcode) else 1)) % self.size
+
     def step(self):
         """The answer and the writes."""
         if not self.queue:
@@ -130,36 +153,14 @@ class Machine:
         self.steps += 1
         a_pointer, a, writes = self.operand(pc, modes[0], self.core[pc][3][0])
         b_pointer, b, more = self.operand(pc, modes[1], self.core[pc][3][1])
-        writes += more
         live = self.core[b_pointer]
-        whole = a[:2] == live[:2] and a[2] == live[2] and a[3] == live[3]
         pairs = [(a[3][x], b[3][y], y) for x, y in PAIRS[modifier]]
-        following, ended, stored = pc + 1, 0, False
-        if opcode == 0:
-            ended = 11
-        elif opcode == 1:
-            if modifier == 6:
-                live[:2] = a[:2]
-        elif opcode in (5, 6) and any(y == 0 for _, y, _ in pairs):
-            ended = 12
-        if opcode in (1, 2, 3, 4, 5, 6, 10):
-            for x, y, to in pairs:
-                if opcode in (5, 6) and y == 0:
-                    continue
-                value = {1: x, 2: x + y, 3: y - x, 4: x * y, 5: x // (y or 1), 6: x % (y or 1), 10: y - 1}[opcode]
-                live[3][to] = value % self.size
-                stored = True
-        equal = all(x == y for x, y, _ in pairs) and (modifier != 6 or whole)
-        jumps = {7: True, 8: any(y == 0 for _, y, _ in pairs), 9: any(y for _, y, _ in pairs), 10: any((y - 1) % self.size for _, y, _ in pairs)}
-        skips = {11: equal, 12: equal, 13: not equal, 14: all(x < y for x, y, _ in pairs)}
-        if jumps.get(opcode):
-            following = a_pointer
-        if skips.get(opcode):
-            following = pc + 2
-        writes += stored
+        equal = all(x == y for x, y, _ in pairs) and (modifier != 6 or a == live)
+        writes += more + self.store(opcode, modifier, a, live, pairs)
+        ended = 11 if opcode == 0 else 12 if opcode in (5, 6) and any(y == 0 for _, y, _ in pairs) else 0
         if ended:
             return (0 if self.counts[name] else ended), writes
-        self.queue.append((following % self.size, thread, name))
+        self.queue.append((self.following(opcode, pc, a_pointer, pairs, equal), thread, name))
         self.counts[name] += 1
         if opcode == 15 and self.counts[name] < self.processes:
             self.queue.append((a_pointer, self.threads[name], name))
@@ -175,7 +176,7 @@ def printed(file):
         size, warriors = read(file)
         machine = Machine(size, 125)
         for warrior in warriors:
-            machine.enter(*warrior)
+            machine.place_and_start(*warrior)
     except Refused as refused:
         return " ".join(map(str, refused.args)) + "\n"
     answer = total = 0

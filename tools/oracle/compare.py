@@ -53,7 +53,7 @@ OPENED = "sound_word lawful lowest_fault cells register numbered entries pop pus
 # the calls, on a machine m: `size`, `processes` and `slots` are numbers, `name` and `body` bytes, `origin` a number, `ceiling` an Option ℕ.
 # A load of the Rust is a place at 0 and, where that is accepted, a start at the origin.
 FRESH = "(fresh (of_size size processes) (replicate size 7) (replicate slots 9)).machine"
-LOAD = "and_then (place m name body 0) (λ n. start n name (origin_in n origin))"
+LOAD = "and_then (place m name body 0) (λ n. start n name (start_place n origin))"
 STEP = "step m"
 RUN = "run (ceilings ceiling) m"
 
@@ -102,8 +102,8 @@ ceilings none = None
 ceilings (some n) = Some n
 
 -- where a body at 0 is started: at its origin; 65,535 is none, and means 0
-abbrev origin_in : Machine → ℕ → ℕ
-origin_in m origin = ahead m.header.rules.size 0 (cond (eqb origin 65535) 0 origin)
+abbrev start_place : Machine → ℕ → ℕ
+start_place m origin = ahead m.header.rules.size 0 (cond (eqb origin 65535) 0 origin)
 
 abbrev answered : Call → Machine → Outcome
 answered (loads name body origin) m = {LOAD}
@@ -388,7 +388,8 @@ def write(path, text):
         f.write(text)
 
 
-def main():
+def asked():
+    """What is asked for."""
     parser = argparse.ArgumentParser(description=__doc__, formatter_class=argparse.RawDescriptionHelpFormatter)
     parser.add_argument("answers")
     parser.add_argument("repository")
@@ -398,7 +399,11 @@ def main():
     parser.add_argument("--only")
     parser.add_argument("--most", type=int, default=10**9)
     parser.add_argument("--each", action="store_true")
-    o = parser.parse_args()
+    return parser.parse_args()
+
+
+def chosen(o):
+    """The battles asked for, with their indices: those that are compared, and those outside."""
     low, high = 0, 10**9
     if o.only:
         low, _, last = o.only.partition("-")
@@ -407,9 +412,10 @@ def main():
         battle = RustBattle if o.reference else Battle
         battles = [(i, battle(i, *b)) for i, b in enumerate(recorded(f)) if low <= i <= high]
     battles = [(i, b) for i, b in battles if b.steps <= o.most]
-    outside = [i for i, b in battles if not b.inside]
-    battles = [(i, b) for i, b in battles if b.inside]
+    return [(i, b) for i, b in battles if b.inside], [i for i, b in battles if not b.inside]
 
+
+def write_crate(o, battles):
     crate = os.path.join(o.repository, "crates", CRATE)
     shutil.rmtree(crate, ignore_errors=True)
     for part in "src", "proofs":
@@ -426,10 +432,19 @@ def main():
         write(os.path.join(crate, f"proofs/{modules[-1]}.antt"), HEAD + "".join(map(stated, parts)))
     write(os.path.join(crate, "proofs/Lib.antt"), "".join(f"pub mod {m}\n" for m in modules))
 
+
+def list_crate(o):
     listing = os.path.join(o.repository, "crates.txt")
     with open(listing) as f:
         crates = [line for line in f if not line.startswith(CRATE + ":")]
     write(listing, "".join(crates) + f"{CRATE}: {' '.join(RUST_DEPENDS if o.reference else DEPENDS)}\n")
+
+
+def main():
+    o = asked()
+    battles, outside = chosen(o)
+    write_crate(o, battles)
+    list_crate(o)
     print(f"{len(battles)} battles, {sum(len(b.wanted) for _, b in battles)} states, {sum(b.steps for _, b in battles)} steps;",
           f"left out, as a name holds over {MOST_PROCESSES} entries: {len(outside)}", file=sys.stderr)
 

@@ -1,5 +1,5 @@
 //! Fresh, step, run and cell reading; process limits, read and write limits; unsound headers; memory that comes as pointers.
-use crate::{enter, memories, record, rules, DAT, IMP, SPLIT};
+use crate::{memories, place_and_start, record, rules, DAT, IMP, SPLIT};
 use sumacadze::{Answer, Header, Machine, NotLent, Ring, Roster, Rules};
 
 #[test]
@@ -92,7 +92,7 @@ fn fresh_takes_a_process_limit_that_the_queue_has_room_for() {
 pub fn splitters<'a>(core: &'a mut [u64], queue: &'a mut [u64]) -> Machine<'a> {
     let mut m = Machine::fresh(Rules::of_size(8, 2), core, queue).unwrap();
     for (name, place) in [(b"A", 0), (b"A", 2), (b"B", 4)] {
-        assert_eq!(enter(&mut m, name, &SPLIT, place), Answer::Done);
+        assert_eq!(place_and_start(&mut m, name, &SPLIT, place), Answer::Done);
     }
     m
 }
@@ -158,8 +158,8 @@ fn limits_fold_what_is_read_and_written() {
     assert_eq!(m.header().rules, rules);
     // JMP.B <3, $6 at 4: the decrement is at 5, the read chain goes by the cell at 3
     let jump = [7, 1, 5, 1, 3, 0, 0, 0, 6, 0, 0, 0];
-    enter(&mut m, b"A", &jump, 4);
-    enter(&mut m, b"B", &IMP, 0);
+    place_and_start(&mut m, b"A", &jump, 4);
+    place_and_start(&mut m, b"B", &IMP, 0);
     let first = m.step();
     assert_eq!(
         (first.answer, first.writes, first.steps),
@@ -180,8 +180,8 @@ fn limits_fold_what_is_read_and_written() {
 fn an_imp_runs_and_a_dat_ends() {
     let (mut core, mut queue) = memories();
     let mut m = Machine::fresh(rules(), &mut core, &mut queue).unwrap();
-    assert_eq!(enter(&mut m, b"Imp", &IMP, 6), Answer::Done);
-    assert_eq!(enter(&mut m, b"", &DAT, 3), Answer::Done);
+    assert_eq!(place_and_start(&mut m, b"Imp", &IMP, 6), Answer::Done);
+    assert_eq!(place_and_start(&mut m, b"", &DAT, 3), Answer::Done);
     let first = m.step();
     assert_eq!(
         (first.answer, first.writes, first.steps),

@@ -29,7 +29,7 @@ fn record(m: &Machine) -> (Header, Vec<u64>, Vec<u64>) {
 }
 
 /// Places a body and starts a process at its first instruction: the answer of the start.
-fn enter(m: &mut Machine, name: &[u8], body: &[u8], place: u32) -> Answer {
+fn place_and_start(m: &mut Machine, name: &[u8], body: &[u8], place: u32) -> Answer {
     assert_eq!(m.place(name, body, place).answer, Answer::Done);
     m.start(name, place).answer
 }

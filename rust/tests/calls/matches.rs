@@ -1,5 +1,5 @@
 //! A match loaded in one call, and reading a match file.
-use crate::{enter, memories, record, rules, DAT, IMP};
+use crate::{memories, place_and_start, record, rules, DAT, IMP};
 use sumacadze::{Answer, Loads, Machine, Match, Report, Rules, NO_ORIGIN};
 
 /// A warrior as a line of a match file has it: its name, body, origin and place.
@@ -130,8 +130,8 @@ fn a_refused_warrior_leaves_those_before_it() {
     assert_eq!(m.load_match(&file), loads(Answer::InvalidCode(2), 2, 2));
     let (mut core, mut queue) = memories();
     let mut single = Machine::fresh(rules(), &mut core, &mut queue).unwrap();
-    enter(&mut single, b"A", &IMP, 0);
-    enter(&mut single, b"B", &DAT, 4);
+    place_and_start(&mut single, b"A", &IMP, 0);
+    place_and_start(&mut single, b"B", &DAT, 4);
     assert_eq!(record(&m), record(&single));
     // the first warrior of a file refused: its number is 0, too
     let long = [DAT; 9].concat();
@@ -153,7 +153,7 @@ fn a_match_refused_before_its_warriors_changes_nothing() {
     let other = match_file(7, &[(b"A", &IMP, 0, 0), (b"B", &DAT, 0, 4)]);
     let (mut core, mut queue) = memories();
     let mut m = Machine::fresh(rules(), &mut core, &mut queue).unwrap();
-    enter(&mut m, b"Imp", &IMP, 3);
+    place_and_start(&mut m, b"Imp", &IMP, 3);
     let before = record(&m);
     let cut = file.len() - 1;
     assert_eq!(m.load_match(&other), loads(Answer::InvalidCoreSize, 0, 0));
