@@ -17,7 +17,7 @@ use Rattle.match_format.specs.Faults.{unless, ◌else◌, fault, fault_at}
 use Rattle.match_format.proofs.Chains.{else-left, else-right, unless-true}
 use Rattle.match_file.specs.Reading.{told_by, zeroed, size_in, warriors_in, warriors_of}
 use Rattle.match_file.specs.Refusal.{malformed}
-use Rattle.match_file.proofs.Refusal.{thirteen}
+use Rattle.match_file.proofs.Refusal.{thirteen, not-told}
 use Rattle.write_checks.specs.Refusal.{Written, settle}
 use Rattle.match_write.specs.Writing.{checks, write, write_added}
 use Rattle.round_trip.proofs.RoundTrip.{exact}
@@ -25,8 +25,7 @@ use Rattle.demands.specs.Promise.{FileNumbers, FirstPromise, AddedPromise}
 use Rattle.demands.specs.Refusals.{FileRefused, FileZero, LineRefused, WriteRefused}
 
 nowhere : (x : Option ℕ) → told_by x ≡ gives 0 0 → x ≡ None
-nowhere None t = refl
-nowhere (Some p) t = absurd (false≢true (ap (λ (y : Told). eqb y.number 0) t))
+nowhere x t = not-told x (ap (λ (y : Told). y.number) t)
 
 pub file-refuses : (f : List ℕ) (t : Told) → t ≡ told_by (fault f) → FileRefused f t
 file-refuses f t e =

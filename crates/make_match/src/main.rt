@@ -2,7 +2,7 @@
 #![tactic(auto)]
 
 use crate::fault::Fault;
-use crate::reading::{LONGEST_TEXT, make};
+use crate::reading::{LONGEST_TEXT, Reading};
 use memory::read_into;
 use std::io::{Read, Write};
 
@@ -17,8 +17,9 @@ fn run(input: &mut impl Read, output: &mut impl Write) -> Result<(), Fault> {
     if length > LONGEST_TEXT {
         return Err(Fault::TooLong);
     }
-    let file = make(&text[..length])?;
-    output.write_all(&file).map_err(|_| Fault::NotTaken)
+    let mut reading = Reading::new();
+    let file = reading.make(&text[..length])?;
+    output.write_all(file).map_err(|_| Fault::NotTaken)
 }
 
 fn main(rt: HostRuntime) {

@@ -18,12 +18,9 @@ const NONE: &[u8] = b"-";
 // The most bytes of a text.
 pub(crate) const LONGEST_TEXT: usize = 65536;
 
-// A match file.
-pub(crate) type MatchFile = ArrayVec<u8, LONGEST_FILE>;
-
-// What the words read so far say, and the file of the warriors before.
+// What the words read so far say, the file of the warriors before, and memory for that file with one warrior more, which is kept here since filling and moving 32 KiB for each warrior takes four times the instructions of all else.
 #[derive(Drop)]
-struct Reading<'a> {
+pub(crate) struct Reading<'a> {
     // Counted here, since a text's words come line by line.
     words: usize,
     wanted: Kind,
@@ -34,7 +31,8 @@ struct Reading<'a> {
     // A text has at most 5,460 instructions: 65,520 bytes.
     body: ArrayVec<u8, LONGEST_TEXT>,
     warriors: usize,
-    file: MatchFile,
+    file: ArrayVec<u8, LONGEST_FILE>,
+    next: [u8; LONGEST_FILE],
 }
 
 // The number that a word says. `parse` takes a plus sign too, which a text has not.
@@ -50,7 +48,7 @@ where
 
 impl<'a> Reading<'a> {
     // Nothing is read yet.
-    fn new() -> Self {
+    pub(crate) fn new() -> Self {
         Reading {
             words: 0,
             wanted: Kind::Size,
@@ -61,6 +59,7 @@ impl<'a> Reading<'a> {
             body: ArrayVec::new(),
             warriors: 0,
             file: ArrayVec::new(),
+            next: [0; LONGEST_FILE],
         }
     }
 
@@ -92,19 +91,19 @@ impl<'a> Reading<'a> {
             origin: self.origin,
             place: self.place,
         };
-        let mut out = [0; LONGEST_FILE];
         let written = if self.warriors == 0 {
-            write_first(self.size, warrior, &mut out)
+            write_first(self.size, warrior, &mut self.next)
         } else {
-            write_added(&self.file, warrior, &mut out)
+            write_added(&self.file, warrior, &mut self.next)
         };
         self.warriors = self.warriors.saturating_add(1);
         let length = written.map_err(|error| Fault::Refused {
             warrior: self.warriors,
             error,
         })?;
-        self.file = ArrayVec::from(out);
-        self.file.truncate(length);
+        let made = self.next.get(..length).unwrap_or_default();
+        self.file.clear();
+        let _ = self.file.try_extend_from_slice(made);
         self.body.clear();
         Ok(())
     }
@@ -142,18 +141,17 @@ impl<'a> Reading<'a> {
         }
         Ok(())
     }
-}
 
-// Makes the file of a text, which ends where an instruction could begin.
-pub(crate) fn make(text: &[u8]) -> Result<MatchFile, Fault> {
-    let mut reading = Reading::new();
-    reading.take_text(text)?;
-    if reading.wanted != Kind::Opcode {
-        return Err(Fault::EndsEarly {
-            word: reading.words,
-            wanted: reading.wanted,
-        });
+    // Makes the file of a text, which ends where an instruction could begin.
+    pub(crate) fn make(&mut self, text: &'a [u8]) -> Result<&[u8], Fault> {
+        self.take_text(text)?;
+        if self.wanted != Kind::Opcode {
+            return Err(Fault::EndsEarly {
+                word: self.words,
+                wanted: self.wanted,
+            });
+        }
+        self.write()?;
+        Ok(&self.file)
     }
-    reading.write()?;
-    Ok(reading.file)
 }

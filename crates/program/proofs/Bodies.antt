@@ -3,9 +3,10 @@
 use mathlib.Core.Path.{◌≡◌, refl, sym, ap, ◌∙◌}
 use mathlib.Core.Bool.{Bool, true, false, cond, not}
 use lib.Dec.{eqb, ltb}
+use mathlib.Core.Logic.{⊎_elim}
 use mathlib.Core.List.{List, [], ◌∷◌, map}
 use Prim.Native.Nat.{ℕ, zero, suc, ◌+◌, ◌-◌, ◌*◌, ◌/◌, ◌%◌, ◌<◌, ◌≤◌}
-use native.Mathlib.Nat.{sub-zero, zero-add}
+use native.Mathlib.Nat.{eq-or-lt_of_le, sub-zero, zero-add}
 use native.Mathlib.Numerals.{add-one}
 use native.Mathlib.Omega.{arith}
 use lib.ListN.{length-drop, length, get_or, take, drop, set}
@@ -37,6 +38,31 @@ rest-first body n i h = rw (fall n i h, drop-drop 12 (12 * i) body, twelve i)
 
 pub rest-none : (body : List ℕ) (n i : ℕ) → n ≤ i → rest body n i ≡ []
 rest-none body n i h = rw (done n i h)
+
+-- the lowest faulty index, where the first i instructions are lawful
+abbrev pub From : List ℕ → ℕ → Type 0
+From body i = lowest_fault body ≡ i + lowest (λ x. not (lawful x)) (rest body (instructions body) i)
+
+module _ (body : List ℕ) (i : ℕ) (so_far : From body i) where
+  step : i < instructions body
+      → lowest_fault body ≡ i + cond (not (lawful (take 12 (drop (12 * i) body)))) 0 (suc (lowest (λ x. not (lawful x)) (rest body (instructions body) (i + 1))))
+  step h = so_far ∙ rw (rest-first body (instructions body) i h)
+
+  here : i < instructions body → lawful (take 12 (drop (12 * i) body)) ≡ false → i ≡ lowest_fault body
+  here h e = sym (rw e at (step h) ∙ omega arith)
+
+  nowhere : i ≤ instructions body → instructions body ≤ i → instructions body ≡ lowest_fault body
+  nowhere l h = sym (so_far ∙ rw (rest-none body (instructions body) i h) (omega arith))
+
+-- past the last whole instruction: one cut short is faulty
+pub past_whole : (body : List ℕ) (i : ℕ) → From body i → i ≡ length body / 12 → i ≡ lowest_fault body
+past_whole body i so_far e = ⊎_elim whole cut (let l : i ≤ instructions body = omega arith in eq-or-lt_of_le l)
+  where
+    whole : i ≡ instructions body → i ≡ lowest_fault body
+    whole q = q ∙ nowhere body i so_far (omega arith) (omega arith)
+
+    cut : i < instructions body → i ≡ lowest_fault body
+    cut h = here body i so_far h (sym (cut_short (drop (12 * i) body) (rw length-drop (omega arith))))
 
 -- the whole instructions of a body
 pub chunks : (n : ℕ) (body : List ℕ) → first_chunks 12 n body ≡ split n body
@@ -96,20 +122,18 @@ module _ (body : List ℕ) where
           let at : lowest_fault body ≡ first = is ∙ rw t in
           rw (e, t) (sym (rw at (rw (lt-ltb first (instructions body) (omega arith)))))
 
+      past : whole ≤ first → lowest_fault body ≡ whole
+      past g = sym (past_whole body whole (is ∙ rw (le-ltb first whole g)) refl)
+
       not_found : whole ≤ first → (b : Bool) → eqb (length body % 12) 0 ≡ b → option_or r (then_some (not none) whole) ≡ fault_in body
       not_found g true z =
           let t = le-ltb first whole g in
           let m : length body % 12 ≡ 0 = eqb-true _ 0 z in
-          let n : instructions body - whole ≡ 0 = omega arith in
-          let at : lowest_fault body ≡ whole = is ∙ rw (t, n) (omega arith) in
-          rw (e, t, f, z) (sym (rw at (rw (le-ltb whole (instructions body) (omega arith)))))
+          rw (e, t, f, z) (sym (rw (past g) (rw (le-ltb whole (instructions body) (omega arith)))))
       not_found g false z =
           let t = le-ltb first whole g in
           let m : length body % 12 ≡ 0 → ⊥ = eqb-false _ 0 z in
-          let n : instructions body - whole ≡ 1 = omega arith in
-          let cut : lawful (take 12 (drop (12 * whole) body)) ≡ false = sym (cut_short (drop (12 * whole) body) (rw length-drop (omega arith))) in
-          let at : lowest_fault body ≡ whole = is ∙ rw (t, n, cut) (omega arith) in
-          rw (e, t, f, z) (sym (rw at (rw (lt-ltb whole (instructions body) (omega arith)))))
+          rw (e, t, f, z) (sym (rw (past g) (rw (lt-ltb whole (instructions body) (omega arith)))))
 
 -- the whole instructions of a body
 pub chunk : (n i : ℕ) (body x : List ℕ) → i < n → get_or (first_chunks 12 n body) i x ≡ take 12 (drop (12 * i) body)

@@ -113,7 +113,7 @@ fn trusted_until(
 {
     let steps = ceiling.saturating_sub(processes.steps as u64);
     let least = core.len() as u64 / 16 + processes.ring.length as u64 / 16;
-    if steps < least || processes.ring.length == 0 {
+    if steps == 0 || steps < least || processes.ring.length == 0 {
         return 0;
     }
     if scan(core, queue, setting.rules, setting.held, processes, steps) {

@@ -14,11 +14,11 @@ use Rattle.sumacadze.specs.declared.Report.{Report}
 use Rattle.sumacadze.specs.Report.{reported}
 use Rattle.sumacadze.proofs.Numbers.{in-numbers}
 
-abbrev changed : Header → Header → Header
+abbrev pub changed : Header → Header → Header
 changed h k = header_of h.rules h.names (processes_of k)
 
 -- which is all, where the rules and the names stay
-all_changed : (h : Header) (o : state.Outcome) {t : Told} {writes steps : ℕ} {core queue : List ℕ} {k : Header}
+pub all_changed : (h : Header) (o : state.Outcome) {t : Told} {writes steps : ℕ} {core queue : List ℕ} {k : Header}
     → given t writes steps (machine_of core queue k) ≡ given_by o
     → (o.machine.header.rules ≡ h.rules) × (o.machine.header.names ≡ h.names) → changed h k ≡ k
 all_changed h o {k} e fixed =

@@ -1,7 +1,8 @@
 // A body placed in the core under a name, and a process started under a name (01, 'Load'; 02, A.4 and A.5).
 #![tactic(auto)]
 
-ghost use Rattle.std.specs.Prelude.{◌≡◌, cond, ◌≤◌, []};
+ghost use Rattle.std.specs.Prelude.{◌≡◌, cond, ◌≤◌, [], Err};
+ghost use Rattle.answer.specs.declared.Error.TheVariants.{UnsoundRecord};
 ghost use Rattle.answer.specs.Numbers.{told};
 ghost use Rattle.machine.specs.Place as placing;
 ghost use Rattle.machine.specs.Start as starting;
@@ -77,6 +78,13 @@ pub fn start_parts(
     Ok(())
 }
 
+// The refusal of a record whose header is unsound: it is as it was.
+fn unsound(h: Header) -> Outcome
+    ensures { (result.answer ≡ Err UnsoundRecord) × (result.writes ≡ 0) × (result.steps ≡ 0) × (result.header ≡ h) }
+{
+    refuse(Err(Error::UnsoundRecord), h)
+}
+
 // Places a body under a name and starts nothing; an empty name is Warrior0.
 pub fn place(
     core: &mut [u64],
@@ -93,7 +101,7 @@ pub fn place(
     let mut names = h.names;
     let mut processes = processes_of(h);
     if !sound_header(core, queue, rules, &names, &processes) {
-        return refuse(Err(Error::UnsoundRecord), h);
+        return unsound(h);
     }
     match place_parts(core, rules, &mut names, &mut processes, name, body, place) {
         Ok(writes) => Outcome {
@@ -115,7 +123,7 @@ pub fn start(core: &[u64], queue: &mut [u64], h: Header, name: &[u8], place: u32
     let mut names = h.names;
     let mut processes = processes_of(h);
     if !sound_header(core, queue, rules, &names, &processes) {
-        return refuse(Err(Error::UnsoundRecord), h);
+        return unsound(h);
     }
     let answer = start_parts(queue, rules, &mut names, &mut processes, name, place);
     Outcome {

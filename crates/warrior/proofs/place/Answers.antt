@@ -15,7 +15,7 @@ use Rattle.warrior.proofs.place.Goals as goal
 pub returns-then-not-sound_header : goal.returns-then-not-sound_header
 returns-then-not-sound_header c =
     let a = c.args in
-    refusing a.core.now a.queue.now c.refuse.ensures
+    refusing a.core.now a.queue.now c.unsound.ensures
     (unsound-place (machine_of a.core.now a.queue.now a.h)
     (sym (c.sound_header.ensures ∙ ap sound_header (whole a.core.now a.queue.now a.h c.processes_of-processes.ensures)) ∙ c.if-not-sound_header.true)
     a.name.now a.place a.body.now)
@@ -35,7 +35,7 @@ returns-in-Err c =
     let a = c.args in
     let w = whole a.core.now a.queue.now a.h c.processes_of-processes.ensures in
     let sound : sound_header (machine_of a.core.now a.queue.now a.h) ≡ true = sym (c.sound_header.ensures ∙ ap sound_header w) ∙ c.if-not-sound_header.false in
-    refusing c.place_parts.new.core a.queue.now c.refuse-in-Err.ensures
+    refusing c.place_parts.new.core a.queue.now c.refuse.ensures
     (ap (λ h. given (told_error c.in-Err.error) 0 0 (machine_of c.place_parts.new.core a.queue.now h)) c.header_of-in-Err.ensures
     ∙ place-beside-queue a.core.now a.queue.now a.h.rules a.h.names c.processes_of-processes.result a.name.now a.body.now a.place c.in-Err.ensures
     ∙ ap (λ m. given_by (place_tested m a.name.now a.body.now a.place)) w

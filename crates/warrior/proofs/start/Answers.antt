@@ -15,7 +15,7 @@ use Rattle.warrior.proofs.start.Goals as goal
 pub returns-then-not-sound_header : goal.returns-then-not-sound_header
 returns-then-not-sound_header c =
     let a = c.args in
-    refusing a.core.now a.queue.now c.refuse.ensures
+    refusing a.core.now a.queue.now c.unsound.ensures
     (unsound-start (machine_of a.core.now a.queue.now a.h)
     (sym (c.sound_header.ensures ∙ ap sound_header (whole a.core.now a.queue.now a.h c.processes_of-processes.ensures)) ∙ c.if-not-sound_header.true)
     a.name.now a.place)
