@@ -18,7 +18,7 @@ const NONE: &[u8] = b"-";
 // The most bytes of a text.
 pub(crate) const LONGEST_TEXT: usize = 65536;
 
-// What the words read so far say, the file of the warriors before, and memory for that file with one warrior more, which is kept here since filling and moving 32 KiB for each warrior takes four times the instructions of all else.
+// What the words read so far say, the file of the warriors before, and memory for that file with one warrior more, which is kept here since filling and moving 32 KiB for each of 16 warriors of one instruction takes four times the instructions of all else.
 #[derive(Drop)]
 pub(crate) struct Reading<'a> {
     // Counted here, since a text's words come line by line.
