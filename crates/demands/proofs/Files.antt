@@ -2,7 +2,7 @@
 -- Assumes nothing.
 use Prim.Native.Nat.{ℕ}
 use mathlib.Core.Path.{◌≡◌, refl, sym, ap, subst, ◌∙◌}
-use mathlib.Core.Bool.{Bool, false, false≢true}
+use mathlib.Core.Bool.{Bool, false}
 use mathlib.Core.List.{List, [], ◌∷◌}
 use lib.Dec.{eqb, ltb}
 use lib.ListN.{length}
@@ -11,7 +11,7 @@ use Rattle.answer.specs.Numbers.{Told, gives}
 use Rattle.laws.proofs.Every.{◌and◌}
 use Rattle.machine.specs.State.{Check, Verdict, accepted, refusal, first}
 use Rattle.machine.proofs.Checks.{is_accepted, passes-accepted, number_of}
-use Rattle.std.proofs.Common.{Option, Some, None}
+use Rattle.std.proofs.Common.{Option, None}
 use Rattle.match_format.specs.Format.{Warrior, file}
 use Rattle.match_format.specs.Faults.{unless, ◌else◌, fault, fault_at}
 use Rattle.match_format.proofs.Chains.{else-left, else-right, unless-true}
